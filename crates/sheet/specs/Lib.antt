@@ -1,0 +1,11 @@
+pub mod Layout
+pub mod Allowed
+pub mod Placement
+pub mod Bounds
+pub mod Narrow
+pub mod Settle
+pub mod Refusal
+pub mod Accepted
+pub mod Answer
+pub mod Text
+pub mod Positions

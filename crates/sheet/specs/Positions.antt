@@ -1,0 +1,163 @@
+-- Document 01's marked positions, in its order, and two more: one that a single pass over the rows gets wrong, and one that
+-- 'a row with several shapes forbids too' gets wrong. proofs/Marked.antt shows that every case passes. Assumes nothing.
+use mathlib.Core.Bool.{Bool, true, false, not, _&&_}
+use mathlib.Core.List.{List, [], _∷_, _++_, map}
+use mathlib.Core.Option.{Option, none, some}
+use Prim.Native.Nat.{ℕ, suc}
+use lib.Dec.{eqb}
+use lib.IntN.{ℤ, pos}
+use Rattle.integers.specs.Integer.{minus, eqZ}
+use Rattle.integers.specs.Words.{sameWords}
+use Rattle.sheet.specs.Layout.{Lent, lentOf}
+use Rattle.sheet.specs.Allowed.{forbidFrom, forbidTo}
+use Rattle.sheet.specs.Placement.{good, catalogueGood}
+use Rattle.sheet.specs.Bounds.{leastOf}
+use Rattle.sheet.specs.Narrow.{narrowOf}
+use Rattle.sheet.specs.Settle.{settleOf}
+use Rattle.sheet.specs.Refusal.{refusal, refusalPlacement}
+
+-- ---- what is asked of a sheet, and the answer
+
+pub data Asked : Type 0 where
+  -- the least coordinate of row i with shape s in dimension 0
+  hasLeast : (i s : ℕ) → Option ℤ → Asked
+  -- what box c of row j forbids to row i with box b in dimension 0 under rule 0: from .. to ..
+  forbids : (i b j c : ℕ) → ℤ → ℤ → Asked
+  -- narrowing row i
+  narrows : (i : ℕ) → Option (List ℤ) → Asked
+  settles : Option (List ℤ) → Asked
+  isGood : Bool → Asked
+
+pub record Case : Type 0 where
+  pub block : List ℤ
+  pub table : List ℤ
+  pub asked : Asked
+
+unfoldable pub sameTable : Option (List ℤ) → Option (List ℤ) → Bool
+sameTable none none = true
+sameTable none (some y) = false
+sameTable (some x) none = false
+sameTable (some x) (some y) = sameWords x y
+
+unfoldable pub sameNumber : Option ℤ → Option ℤ → Bool
+sameNumber none none = true
+sameNumber none (some y) = false
+sameNumber (some x) none = false
+sameNumber (some x) (some y) = eqZ x y
+
+unfoldable pub sameTruth : Bool → Bool → Bool
+sameTruth true b = b
+sameTruth false b = not b
+
+unfoldable pub answered : Lent → List ℤ → Asked → Bool
+answered lent table (hasLeast i s z) = sameNumber (leastOf lent table i s 0) z
+answered lent table (forbids i b j c from to) =
+    eqZ (forbidFrom lent table 0 i b j c 0) from && eqZ (forbidTo lent table 0 i b j c 0) to
+answered lent table (narrows i t) = sameTable (narrowOf lent table i) t
+answered lent table (settles t) = sameTable (settleOf lent table) t
+answered lent table (isGood b) =
+    eqb (refusalPlacement lent table) 0 && sameTruth (good lent table) b && sameTruth (catalogueGood lent table) b
+
+-- the sheet is accepted, and the answer is right
+unfoldable pub passes : Case → Bool
+passes c = eqb (refusal (lentOf (c .block)) (c .table)) 0 && answered (lentOf (c .block)) (c .table) (c .asked)
+
+unfoldable pub allPass : List Case → Bool
+allPass [] = true
+allPass (c ∷ cs) = elim (passes c) [ true ↦ allPass cs | false ↦ false ]
+
+-- ---- the sheets
+
+unfoldable pub words : List ℕ → List ℤ
+words ns = map pos ns
+
+-- a row of one dimension, and of two
+unfoldable pub row : ℕ → ℤ → ℤ → List ℤ
+row set a b = pos set ∷ a ∷ b ∷ []
+
+unfoldable pub row2 : ℕ → ℕ → ℕ → ℕ → ℕ → List ℤ
+row2 set a b c d = words (set ∷ a ∷ b ∷ c ∷ d ∷ [])
+
+-- k = 1, offsets 0: boxes of shapes 1, 2 and on with these sizes
+unfoldable pub boxesFrom : ℕ → List ℕ → List ℤ
+boxesFrom s [] = []
+boxesFrom s (l ∷ ls) = words (s ∷ 0 ∷ l ∷ []) ++ boxesFrom (suc s) ls
+
+-- one shape of each size, and the rows of a set apart
+unfoldable pub line : List ℕ → ℕ → ℕ → List ℤ
+line sizes count set = words (1 ∷ count ∷ 1 ∷ []) ++ boxesFrom 1 sizes ++ words (1 ∷ 1 ∷ set ∷ 0 ∷ 0 ∷ [])
+
+-- the same for shapes of size 2, in a room from 0 to h
+unfoldable pub room : ℕ → ℕ → List ℤ
+room set h = words (1 ∷ 1 ∷ 2 ∷ []) ++ boxesFrom 1 (2 ∷ []) ++ words (1 ∷ 1 ∷ set ∷ 0 ∷ 0 ∷ 2 ∷ 1 ∷ set ∷ 0 ∷ h ∷ [])
+
+-- A, shape 1 of size 3, and B, shape 2 of size 2
+unfoldable pub ab : List ℤ
+ab = line (3 ∷ 2 ∷ []) 2 3
+
+-- A from a to a', B from b to b'
+unfoldable pub abRows : ℤ → ℤ → ℤ → ℤ → List ℤ
+abRows a a' b b' = row 1 a a' ++ row 2 b b'
+
+-- the sheet of "The text program"
+unfoldable pub textSheet : List ℤ
+textSheet = words (2 ∷ 1 ∷ 2 ∷ 1 ∷ 0 ∷ 0 ∷ 2 ∷ 2 ∷ 1 ∷ 3 ∷ 3 ∷ 0 ∷ 0 ∷ 0 ∷ 0 ∷ 2 ∷ 3 ∷ 3 ∷ 0 ∷ 4 ∷ 0 ∷ 2 ∷ [])
+
+-- the shapes of document 002, and rows 1 to 3 apart in both dimensions
+unfoldable pub catalogue : List ℤ
+catalogue =
+    words
+    (2 ∷ 21 ∷ 1
+    ∷ 1 ∷ 0 ∷ 0 ∷ 2 ∷ 1 ∷ 1 ∷ 0 ∷ 1 ∷ 1 ∷ 2 ∷ 1 ∷ 1 ∷ 2 ∷ 3 ∷ 1
+    ∷ 2 ∷ 0 ∷ 0 ∷ 3 ∷ 1 ∷ 2 ∷ 0 ∷ 1 ∷ 1 ∷ 3 ∷ 2 ∷ 2 ∷ 1 ∷ 1 ∷ 1
+    ∷ 3 ∷ 0 ∷ 0 ∷ 2 ∷ 1 ∷ 3 ∷ 1 ∷ 1 ∷ 1 ∷ 2 ∷ 3 ∷ 2 ∷ 2 ∷ 3 ∷ 1
+    ∷ 4 ∷ 0 ∷ 0 ∷ 3 ∷ 1 ∷ 4 ∷ 0 ∷ 1 ∷ 1 ∷ 1 ∷ 4 ∷ 2 ∷ 1 ∷ 1 ∷ 3
+    ∷ 5 ∷ 0 ∷ 0 ∷ 2 ∷ 1 ∷ 5 ∷ 1 ∷ 1 ∷ 1 ∷ 1 ∷ 5 ∷ 0 ∷ 2 ∷ 2 ∷ 1
+    ∷ 6 ∷ 0 ∷ 0 ∷ 3 ∷ 1 ∷ 6 ∷ 0 ∷ 1 ∷ 1 ∷ 1 ∷ 6 ∷ 2 ∷ 1 ∷ 1 ∷ 1
+    ∷ 7 ∷ 0 ∷ 0 ∷ 3 ∷ 2 ∷ 8 ∷ 0 ∷ 0 ∷ 2 ∷ 3 ∷ 9 ∷ 0 ∷ 0 ∷ 1 ∷ 4
+    ∷ 1 ∷ 3 ∷ 7 ∷ 0 ∷ 0 ∷ 0 ∷ 0 ∷ [])
+
+-- shape 1 at (1, 2), shape 5 at (2, 1), shape 8 at (x, y)
+unfoldable pub placed : ℕ → ℕ → List ℤ
+placed x y = row2 1 1 1 2 2 ++ row2 16 2 2 1 1 ++ row2 128 x x y y
+
+abbrev case : List ℤ → List ℤ → Asked → Case
+case b t a = record { block = b; table = t; asked = a }
+
+-- ---- the positions
+unfoldable pub positions : List Case
+positions =
+    -- A at 0, B in −2..5: least −2. B in −1..5: least 3. B in −1..2: none
+    case ab (abRows (pos 0) (pos 0) (minus 2) (pos 5)) (hasLeast 2 2 (some (minus 2)))
+    ∷ case ab (abRows (pos 0) (pos 0) (minus 1) (pos 5)) (hasLeast 2 2 (some (pos 3)))
+    ∷ case ab (abRows (pos 0) (pos 0) (minus 1) (pos 2)) (hasLeast 2 2 none)
+    -- A in 0..1 forbids B 0 to 2; in 0..3 only 2; in 0..4 nothing: the first end exceeds the last
+    ∷ case ab (abRows (pos 0) (pos 1) (minus 10) (pos 10)) (forbids 2 1 1 0 (pos 0) (pos 2))
+    ∷ case ab (abRows (pos 0) (pos 3) (minus 10) (pos 10)) (forbids 2 1 1 0 (pos 2) (pos 2))
+    ∷ case ab (abRows (pos 0) (pos 4) (minus 10) (pos 10)) (forbids 2 1 1 0 (pos 3) (pos 2))
+    -- A at 0, B in −1..2 with sizes 2 (shape 1) or 1 (shape 2): only shape 2 remains, at −1
+    ∷ case (line (2 ∷ 1 ∷ 3 ∷ []) 3 3) (row 4 (pos 0) (pos 0) ++ row 3 (minus 1) (pos 2))
+      (narrows 2 (some (row 4 (pos 0) (pos 0) ++ row 2 (minus 1) (minus 1))))
+    -- two rows of size 2 in a room 0 to 3, range 0..1 each: no layout; room 0 to 4, range 0..2 each: settled as given
+    ∷ case (room 3 3) (row 1 (pos 0) (pos 1) ++ row 1 (pos 0) (pos 1)) (settles none)
+    ∷ case (room 3 4) (row 1 (pos 0) (pos 2) ++ row 1 (pos 0) (pos 2)) (settles (some (row 1 (pos 0) (pos 2) ++ row 1 (pos 0) (pos 2))))
+    -- three rows of size 2 in a room 0 to 5, range 0..3: settled as given, though no layout exists
+    ∷ case (room 7 5) (row 1 (pos 0) (pos 3) ++ row 1 (pos 0) (pos 3) ++ row 1 (pos 0) (pos 3))
+      (settles (some (row 1 (pos 0) (pos 3) ++ row 1 (pos 0) (pos 3) ++ row 1 (pos 0) (pos 3))))
+    -- the catalogue's example
+    ∷ case catalogue (placed 4 1) (isGood true)
+    ∷ case catalogue (placed 3 1) (isGood false)
+    ∷ case catalogue (placed 4 2) (isGood false)
+    -- "The text program"
+    ∷ case textSheet (row2 1 0 0 0 0 ++ row2 1 0 3 0 3) (settles (some (row2 1 0 0 0 0 ++ row2 1 2 2 0 0)))
+    -- one pass over the rows leaves row 1 at 2..4: row 2 moves after it
+    ∷ case (line (2 ∷ []) 1 7) (row 1 (pos 2) (pos 4) ++ row 1 (pos 0) (pos 2) ++ row 1 (pos 0) (pos 0))
+      (settles (some (row 1 (pos 4) (pos 4) ++ row 1 (pos 2) (pos 2) ++ row 1 (pos 0) (pos 0))))
+    -- A at 0 with sizes 3 or 4 forbids nothing: B of size 2 in −1..5 has least −1
+    ∷ case (line (3 ∷ 4 ∷ 2 ∷ []) 3 3) (row 3 (pos 0) (pos 0) ++ row 4 (minus 1) (pos 5)) (hasLeast 2 3 (some (minus 1)))
+    ∷ []
+
+-- one name that opens every definition above: `unfolding marked`
+unfoldable pub marked : Unit {0}
+unfolding sameTable sameNumber sameTruth answered passes allPass words row row2 boxesFrom line room ab abRows textSheet catalogue placed positions
+marked = tt

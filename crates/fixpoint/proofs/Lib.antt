@@ -1,0 +1,9 @@
+pub mod Unique
+pub mod Between
+pub mod Pass
+pub mod Settle
+pub mod Order
+pub mod Runs
+pub mod Loops
+pub mod Worklist
+pub mod Carry

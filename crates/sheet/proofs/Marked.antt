@@ -4,7 +4,7 @@ use Rattle.integers.specs.Integer.{eqZ, within, width}
 use Rattle.integers.specs.Below.{_⇒_, allBelow, anyBelow, sumBelow, leastBelow, greatestBelow, valueOr}
 use Rattle.integers.specs.Bits.{bitAt, bit, holds, holdsOnly, setOf}
 use Rattle.integers.specs.Words.{listBelow, pairsBelow, replaced, sameWords}
-use Rattle.fixpoint.specs.Passes.{pass, rounds, settleBy}
+use Rattle.fixpoint.specs.Passes.{bind, pass, rounds, settleBy}
 use Rattle.sheet.specs.Layout.{layout}
 use Rattle.sheet.specs.Allowed.{allowing}
 use Rattle.sheet.specs.Placement.{placing}
@@ -15,5 +15,5 @@ use Rattle.sheet.specs.Refusal.{refusing}
 use Rattle.sheet.specs.Positions.{allPass, positions, marked}
 
 pub positions-pass : T (allPass positions)
-unfolding eqZ within width _⇒_ allBelow anyBelow sumBelow leastBelow greatestBelow valueOr bitAt bit holds holdsOnly setOf listBelow pairsBelow replaced sameWords pass rounds settleBy layout allowing placing bounding narrowing settling refusing marked
+unfolding eqZ within width _⇒_ allBelow anyBelow sumBelow leastBelow greatestBelow valueOr bitAt bit holds holdsOnly setOf listBelow pairsBelow replaced sameWords bind pass rounds settleBy layout allowing placing bounding narrowing settling refusing marked
 positions-pass = tt

@@ -1,0 +1,209 @@
+-- Laws of the tests over the numbers below n: what a loop needs, what a passed test says, and a test from its cases;
+-- sums; the first and the last number that passes. Assumes nothing.
+use mathlib.Core.Path.{_≡_, refl, sym, ap, ap₂, _∙_, subst}
+use mathlib.Core.Logic.{_⊎_, inl, inr, ⊎-elim}
+use mathlib.Core.Bool.{Bool, true, false, not, cond, _&&_, _||_}
+use mathlib.Core.Option.{Option, none, some}
+use Prim.Native.Nat.{ℕ, zero, suc, _+_, _≤_, _<_, zero-le}
+use native.Mathlib.Nat.{not-suc-le-zero, eq-or-lt-of-le, le-of-suc-le-suc, add-le-add}
+use native.Mathlib.Numerals.{add-one}
+use native.Mathlib.Omega.{arith}
+use lib.Dec.{eqb, ltb}
+use borrow.Author.Tests.{ltb-true, ltb-false, eqb-true, eqb-false}
+use Rattle.integers.specs.Below.{allBelow, anyBelow, allUpTo, anyUpTo, sumBelow, leastBelow, greatestBelow}
+use Rattle.integers.proofs.Booleans.{clash, decide, fails, and-true, true-and, or-true, or-left, or-right, nor}
+
+-- ---- numbers, one of two cases
+pub same-or : (a b : ℕ) → (a ≡ b) ⊎ (a ≡ b → ⊥)
+same-or a b = ⊎-elim (λ e. inl (eqb-true a b e)) (λ e. inr (eqb-false a b e)) (decide (eqb a b))
+
+pub below-or : (a b : ℕ) → (a < b) ⊎ (b ≤ a)
+below-or a b = ⊎-elim (λ e. inl (ltb-true a b e)) (λ e. inr (ltb-false a b e)) (decide (ltb a b))
+
+-- a number below n + 1 is n or below n
+pub last-or : {i n : ℕ} → i < suc n → (i ≡ n) ⊎ (i < n)
+last-or h = eq-or-lt-of-le (le-of-suc-le-suc h)
+
+-- a statement about every number from 1 on
+pub each-from-1 {ℓ} : (P : ℕ → Type ℓ) → ((m : ℕ) → P (suc m)) → (i : ℕ) → 1 ≤ i → P i
+each-from-1 P f zero h = absurd (not-suc-le-zero h)
+each-from-1 P f (suc m) h = f m
+
+-- ---- one more turn of a loop
+pub all-zero : (f : ℕ → Bool) → allBelow 0 f ≡ true
+unfolding allBelow
+all-zero f = refl
+
+pub all-more : (n : ℕ) (f : ℕ → Bool) → allBelow (n + 1) f ≡ (allBelow n f && f n)
+unfolding allBelow
+all-more n f = rw add-one
+
+pub any-zero : (f : ℕ → Bool) → anyBelow 0 f ≡ false
+unfolding anyBelow
+any-zero f = refl
+
+pub any-more : (n : ℕ) (f : ℕ → Bool) → anyBelow (n + 1) f ≡ (anyBelow n f || f n)
+unfolding anyBelow
+any-more n f = rw add-one
+
+-- ---- what a passed test says, and a test from its cases
+pub all-at : {n : ℕ} (f : ℕ → Bool) → allBelow n f ≡ true → (i : ℕ) → i < n → f i ≡ true
+unfolding allBelow
+all-at {n = zero} f e i h = absurd (not-suc-le-zero h)
+all-at {n = suc n} f e i h =
+    let w : (allBelow n f ≡ true) × (f n ≡ true) = and-true e in
+    ⊎-elim (λ p. ap f p ∙ w .1) (λ l. all-at f (w .0) i l) (last-or h)
+
+pub at-all : {n : ℕ} {f : ℕ → Bool} → ((i : ℕ) → i < n → f i ≡ true) → allBelow n f ≡ true
+unfolding allBelow
+at-all {n = zero} h = refl
+at-all {n = suc n} h = true-and (at-all {n = n} (λ i l. h i (omega arith))) (h n (omega arith))
+
+pub any-at : {n : ℕ} {f : ℕ → Bool} → anyBelow n f ≡ true → (i : ℕ) × (i < n) × (f i ≡ true)
+unfolding anyBelow
+any-at {n = zero} e = clash e refl
+any-at {n = suc n} {f} e = pick (λ u. any-at u) (or-true e)
+  where
+    pick : (anyBelow n f ≡ true → (i : ℕ) × (i < n) × (f i ≡ true)) → (anyBelow n f ≡ true) ⊎ (f n ≡ true) → (i : ℕ) × (i < suc n) × (f i ≡ true)
+    pick before (inl u) = let w = before u in (w .0, omega (arith, w .1), w .2)
+    pick before (inr u) = (n, omega arith, u)
+
+pub any-true : {n : ℕ} (f : ℕ → Bool) (i : ℕ) → i < n → f i ≡ true → anyBelow n f ≡ true
+unfolding anyBelow
+any-true {n = zero} f i h e = absurd (not-suc-le-zero h)
+any-true {n = suc n} f i h e = ⊎-elim (λ p. or-right (anyBelow n f) (ap f (sym p) ∙ e)) (λ l. or-left _ (any-true f i l e)) (last-or h)
+
+-- left early; and none passes
+pub all-false : {n : ℕ} (f : ℕ → Bool) (i : ℕ) → i < n → f i ≡ false → allBelow n f ≡ false
+all-false f i h e = fails (λ t. clash (all-at f t i h) e)
+
+pub any-false : {n : ℕ} (f : ℕ → Bool) → anyBelow n f ≡ false → (i : ℕ) → i < n → f i ≡ false
+any-false f e i h = fails (λ t. clash (any-true f i h t) e)
+
+pub false-any : {n : ℕ} {f : ℕ → Bool} → ((i : ℕ) → i < n → f i ≡ false) → anyBelow n f ≡ false
+false-any h = fails (λ t. let w = any-at t in clash (w .2) (h (w .0) (w .1)))
+
+-- ---- two tests that agree below n
+pub all-same : {n : ℕ} {f g : ℕ → Bool} → ((i : ℕ) → i < n → f i ≡ g i) → allBelow n f ≡ allBelow n g
+unfolding allBelow
+all-same {n = zero} h = refl
+all-same {n = suc n} h = ap₂ _&&_ (all-same {n = n} (λ i l. h i (omega arith))) (h n (omega arith))
+
+pub any-same : {n : ℕ} {f g : ℕ → Bool} → ((i : ℕ) → i < n → f i ≡ g i) → anyBelow n f ≡ anyBelow n g
+unfolding anyBelow
+any-same {n = zero} h = refl
+any-same {n = suc n} h = ap₂ _||_ (any-same {n = n} (λ i l. h i (omega arith))) (h n (omega arith))
+
+-- every test fails: none passes
+pub all-not : (n : ℕ) (f : ℕ → Bool) → allBelow n (λ i. not (f i)) ≡ not (anyBelow n f)
+unfolding allBelow anyBelow
+all-not zero f = refl
+all-not (suc n) f = ap (λ (b : Bool). b && not (f n)) (all-not n f) ∙ nor (anyBelow n f) (f n)
+
+-- ---- the same for the numbers 1 to n
+pub upto-at : {n : ℕ} (f : ℕ → Bool) → allUpTo n f ≡ true → (i : ℕ) → 1 ≤ i → i ≤ n → f i ≡ true
+upto-at f e zero h k = absurd (not-suc-le-zero h)
+upto-at f e (suc m) h k = all-at (λ d. f (suc d)) e m k
+
+pub at-upto : {n : ℕ} (f : ℕ → Bool) → ((i : ℕ) → 1 ≤ i → i ≤ n → f i ≡ true) → allUpTo n f ≡ true
+at-upto f h = at-all (λ m l. h (suc m) (omega arith) l)
+
+pub some-upto : {n : ℕ} (f : ℕ → Bool) → anyUpTo n f ≡ true → (i : ℕ) × (1 ≤ i) × (i ≤ n) × (f i ≡ true)
+some-upto f e = let w = any-at e in (suc (w .0), omega arith, w .1, w .2)
+
+pub upto-some : {n : ℕ} (f : ℕ → Bool) (i : ℕ) → 1 ≤ i → i ≤ n → f i ≡ true → anyUpTo n f ≡ true
+upto-some f zero h k e = absurd (not-suc-le-zero h)
+upto-some f (suc m) h k e = any-true (λ d. f (suc d)) m k e
+
+-- ---- sums
+pub sum-le : {n : ℕ} {f g : ℕ → ℕ} → ((i : ℕ) → i < n → f i ≤ g i) → sumBelow n f ≤ sumBelow n g
+unfolding sumBelow
+sum-le {n = zero} h = zero-le
+sum-le {n = suc n} h = add-le-add (sum-le {n = n} (λ i l. h i (omega arith))) (h n (omega arith))
+
+pub sum-lt : {n : ℕ} {f g : ℕ → ℕ} → ((i : ℕ) → i < n → f i ≤ g i) → (j : ℕ) → j < n → f j < g j → sumBelow n f < sumBelow n g
+unfolding sumBelow
+sum-lt {n = zero} h j l s = absurd (not-suc-le-zero l)
+sum-lt {n = suc n} {f} {g} h j l s = pick (λ k. sum-lt {n = n} (λ i m. h i (omega arith)) j k s) (sum-le {n = n} (λ i m. h i (omega arith))) (last-or l)
+  where
+    pick : (j < n → sumBelow n f < sumBelow n g) → sumBelow n f ≤ sumBelow n g → (j ≡ n) ⊎ (j < n) → sumBelow n f + f n < sumBelow n g + g n
+    pick less le (inl e) = omega (arith, subst (λ (i : ℕ). f i < g i) e s)
+    pick less le (inr k) = omega (arith, less k, h n (omega arith))
+
+-- ---- the first number that passes
+-- none below n, and not n: none below n + 1
+none-more : {n : ℕ} (f : ℕ → Bool) → ((b : ℕ) → b < n → f b ≡ false) → f n ≡ false → (b : ℕ) → b < suc n → f b ≡ false
+none-more f g e b h = ⊎-elim (λ p. ap f p ∙ e) (λ l. g b l) (last-or h)
+
+pub record Least (n : ℕ) (f : ℕ → Bool) : Type 0 where
+  pub at : ℕ
+  pub is : leastBelow n f ≡ some at
+  pub below : at < n
+  pub passes : f at ≡ true
+  pub first : (b : ℕ) → f b ≡ true → at ≤ b
+
+pub least-view : (n : ℕ) (f : ℕ → Bool) → Least n f ⊎ ((leastBelow n f ≡ none) × ((b : ℕ) → b < n → f b ≡ false))
+unfolding leastBelow
+least-view zero f = inr (refl, λ b h. absurd (not-suc-le-zero h))
+least-view (suc n) f = step (least-view n f) (f n) refl
+  where
+    next : Bool → Option ℕ → Option ℕ
+    next x o = elim o [ some c ↦ some c | none ↦ cond x (some n) none ]
+
+    step : Least n f ⊎ ((leastBelow n f ≡ none) × ((b : ℕ) → b < n → f b ≡ false)) → (x : Bool) → f n ≡ x
+        → Least (suc n) f ⊎ ((next (f n) (leastBelow n f) ≡ none) × ((b : ℕ) → b < suc n → f b ≡ false))
+    step (inl w) x e = inl record {
+      at = w .at;
+      is = ap (next (f n)) (w .is);
+      below = omega (arith, w .below);
+      passes = w .passes;
+      first = w .first;
+    }
+    step (inr w) true e = inl record {
+      at = n;
+      is = ap₂ next e (w .0);
+      below = omega arith;
+      passes = e;
+      first = λ b t. ⊎-elim (λ l. clash t (w .1 b l)) (λ l. l) (below-or b n);
+    }
+    step (inr w) false e = inr (ap₂ next e (w .0), none-more f (w .1) e)
+
+pub least-some : {n : ℕ} (f : ℕ → Bool) (i : ℕ) → i < n → f i ≡ true → Least n f
+least-some {n} f i h t = ⊎-elim (λ l. l) (λ r. clash t (r .1 i h)) (least-view n f)
+
+-- ---- the last
+pub record Greatest (n : ℕ) (f : ℕ → Bool) : Type 0 where
+  pub at : ℕ
+  pub is : greatestBelow n f ≡ some at
+  pub below : at < n
+  pub passes : f at ≡ true
+  pub last : (b : ℕ) → b < n → f b ≡ true → b ≤ at
+
+pub greatest-view : (n : ℕ) (f : ℕ → Bool) → Greatest n f ⊎ ((greatestBelow n f ≡ none) × ((b : ℕ) → b < n → f b ≡ false))
+unfolding greatestBelow
+greatest-view zero f = inr (refl, λ b h. absurd (not-suc-le-zero h))
+greatest-view (suc n) f = step (greatest-view n f) (f n) refl
+  where
+    next : Bool → Option ℕ → Option ℕ
+    next x o = cond x (some n) o
+
+    step : Greatest n f ⊎ ((greatestBelow n f ≡ none) × ((b : ℕ) → b < n → f b ≡ false)) → (x : Bool) → f n ≡ x
+        → Greatest (suc n) f ⊎ ((next (f n) (greatestBelow n f) ≡ none) × ((b : ℕ) → b < suc n → f b ≡ false))
+    step w true e = inl record {
+      at = n;
+      is = ap (λ (x : Bool). next x (greatestBelow n f)) e;
+      below = omega arith;
+      passes = e;
+      last = λ b h t. le-of-suc-le-suc h;
+    }
+    step (inl w) false e = inl record {
+      at = w .at;
+      is = ap₂ next e (w .is);
+      below = omega (arith, w .below);
+      passes = w .passes;
+      last = λ b h t. ⊎-elim (λ p. clash (ap f (sym p) ∙ t) e) (λ l. w .last b l t) (last-or h);
+    }
+    step (inr w) false e = inr (ap₂ next e (w .0), none-more f (w .1) e)
+
+pub greatest-some : {n : ℕ} (f : ℕ → Bool) (i : ℕ) → i < n → f i ≡ true → Greatest n f
+greatest-some {n} f i h t = ⊎-elim (λ l. l) (λ r. clash t (r .1 i h)) (greatest-view n f)

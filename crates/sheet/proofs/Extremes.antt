@@ -1,0 +1,94 @@
+-- MISSION DEMAND 2, second half: for one row and shape the least and the greatest coordinate found are those of the allowed points,
+-- and none is found exactly when no point is allowed (`least-of`, `greatest-of`). One proof serves both, over the order, and any
+-- test whose points lie in the row's ranges. Assumes nothing.
+use mathlib.Core.Path.{_≡_, refl, sym, ap, _∙_, subst, subst⁻¹}
+use mathlib.Core.Logic.{⊎-elim}
+use mathlib.Core.Bool.{Bool, true, false}
+use mathlib.Core.List.{List}
+use mathlib.Core.Option.{Option, none, some}
+use Prim.Native.Nat.{ℕ, _≤_, _<_}
+use lib.IntN.{ℤ, pos, _+ℤ_, _-ℤ_}
+use lib.Signed.{_≤ℤ_}
+use Rattle.integers.specs.Integer.{nat, width}
+use Rattle.integers.specs.Below.{leastBelow, greatestBelow}
+use Rattle.integers.specs.Words.{word}
+use Rattle.integers.proofs.Booleans.{clash}
+use Rattle.integers.proofs.Below.{least-view, greatest-view}
+use Rattle.integers.proofs.Ranges.{count, count-below, counts}
+use Rattle.sheet.specs.Layout.{Lent, axes, low, high}
+use Rattle.sheet.specs.Allowed.{inRanges, allowed}
+use Rattle.sheet.specs.Bounds.{Extreme, nowhere, there, Least, Greatest, above, reaches, leastBy, greatestBy, leastOf, greatestOf}
+use Rattle.sheet.proofs.Forbidden.{allowed-parts, in-range}
+use Rattle.sheet.proofs.Coordinates.{allowed-agree}
+use Rattle.sheet.proofs.Points.{Respects, reached-at, reaches-by}
+
+-- none of the numbers below n passes g; or c does, and each that passes stands after it
+data Picked (after : ℕ → ℕ → Type 0) (n : ℕ) (g : ℕ → Bool) : Option ℕ → Type 0 where
+  no-number : ((b : ℕ) → b < n → g b ≡ false) → Picked after n g none
+  number : {c : ℕ} → g c ≡ true → ((b : ℕ) → b < n → g b ≡ true → after c b) → Picked after n g (some c)
+
+least-picked : (n : ℕ) (g : ℕ → Bool) → Picked (λ c b. c ≤ b) n g (leastBelow n g)
+least-picked n g =
+    ⊎-elim
+    (λ w. subst⁻¹ (Picked (λ c b. c ≤ b) n g) (w .is) (number (w .passes) (λ b l e. w .first b e)))
+    (λ w. subst⁻¹ (Picked (λ c b. c ≤ b) n g) (w .0) (no-number (w .1)))
+    (least-view n g)
+
+greatest-picked : (n : ℕ) (g : ℕ → Bool) → Picked (λ c b. b ≤ c) n g (greatestBelow n g)
+greatest-picked n g =
+    ⊎-elim
+    (λ w. subst⁻¹ (Picked (λ c b. b ≤ c) n g) (w .is) (number (w .passes) (w .last)))
+    (λ w. subst⁻¹ (Picked (λ c b. b ≤ c) n g) (w .0) (no-number (w .1)))
+    (greatest-view n g)
+
+module _ (lent : Lent) (table : List ℤ) (i : ℕ) (f : List ℤ → Bool) (agree : Respects lent table i f)
+         (ranged : (p : List ℤ) → f p ≡ true → inRanges lent table i p ≡ true) (d : ℕ) (hd : d < axes lent) where
+  -- the numbers of the range, counted from its low end
+  abbrev from : ℤ
+  from = low lent table i d
+
+  abbrev reach : ℕ → Bool
+  reach c = reaches lent table i f d (from +ℤ pos c)
+
+  abbrev at : List ℤ → ℕ
+  at p = nat (word p d -ℤ from)
+
+  counted : (p : List ℤ) → f p ≡ true → from +ℤ pos (at p) ≡ word p d
+  counted p e = count (in-range lent table i d p (ranged p e) hd .0)
+
+  below : (p : List ℤ) → f p ≡ true → at p < width from (high lent table i d)
+  below p e = let r = in-range lent table i d p (ranged p e) hd in count-below (r .0) (r .1)
+
+  hit : (p : List ℤ) → f p ≡ true → reach (at p) ≡ true
+  hit p e = reaches-by lent table i f agree d _ hd p (ranged p e) e (sym (counted p e))
+
+  picked-extreme : {after : ℕ → ℕ → Type 0} {before : ℤ → ℤ → Type 0}
+      → ((m n : ℕ) → after m n → before (from +ℤ pos m) (from +ℤ pos n))
+      → (o : Option ℕ) → Picked after (width from (high lent table i d)) reach o → Extreme before f d (above from o)
+  unfolding above
+  picked-extreme mono none (no-number h) = nowhere (λ p e. clash (hit p e) (h (at p) (below p e)))
+  picked-extreme {before = before} mono (some c) (number e h) =
+      let q = reached-at lent table i f d _ e in
+      there (q .0) (q .1) (q .2) (λ p x.
+        subst (λ (z : ℤ). before (from +ℤ pos c) z) (counted p x) (mono c (at p) (h (at p) (below p x) (hit p x))))
+
+  pub least-by : Least f d (leastBy lent table i f d)
+  unfolding leastBy
+  least-by = picked-extreme {after = λ c b. c ≤ b} (λ m n h. counts from h) _ (least-picked _ reach)
+
+  pub greatest-by : Greatest f d (greatestBy lent table i f d)
+  unfolding greatestBy
+  greatest-by = picked-extreme {after = λ c b. b ≤ c} (λ m n h. counts from h) _ (greatest-picked _ reach)
+
+-- ---- the points at which row i is allowed with shape s
+module _ (lent : Lent) (table : List ℤ) (i s d : ℕ) (hd : d < axes lent) where
+  agree : Respects lent table i (allowed lent table i s)
+  agree p q h = allowed-agree lent table p q h i s
+
+  pub least-of : Least (allowed lent table i s) d (leastOf lent table i s d)
+  unfolding leastOf
+  least-of = least-by lent table i (allowed lent table i s) agree (λ p e. allowed-parts lent table i s p e .0) d hd
+
+  pub greatest-of : Greatest (allowed lent table i s) d (greatestOf lent table i s d)
+  unfolding greatestOf
+  greatest-of = greatest-by lent table i (allowed lent table i s) agree (λ p e. allowed-parts lent table i s p e .0) d hd

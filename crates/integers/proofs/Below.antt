@@ -62,26 +62,27 @@ at-all {n = suc n} h = true-and (at-all {n = n} (λ i l. h i (omega arith))) (h 
 pub any-at : {n : ℕ} {f : ℕ → Bool} → anyBelow n f ≡ true → (i : ℕ) × (i < n) × (f i ≡ true)
 unfolding anyBelow
 any-at {n = zero} e = clash e refl
-any-at {n = suc n} {f} e = pick (λ u. any-at u) (or-true e)
-  where
-    pick : (anyBelow n f ≡ true → (i : ℕ) × (i < n) × (f i ≡ true)) → (anyBelow n f ≡ true) ⊎ (f n ≡ true) → (i : ℕ) × (i < suc n) × (f i ≡ true)
-    pick before (inl u) = let w = before u in (w .0, omega (arith, w .1), w .2)
-    pick before (inr u) = (n, omega arith, u)
+any-at {n = suc n} {f} e =
+    ⊎-elim (λ u. let w = any-at {n = n} {f = f} u in (w .0, omega (arith, w .1), w .2)) (λ u. (n, omega arith, u)) (or-true e)
 
 pub any-true : {n : ℕ} (f : ℕ → Bool) (i : ℕ) → i < n → f i ≡ true → anyBelow n f ≡ true
 unfolding anyBelow
 any-true {n = zero} f i h e = absurd (not-suc-le-zero h)
 any-true {n = suc n} f i h e = ⊎-elim (λ p. or-right (anyBelow n f) (ap f (sym p) ∙ e)) (λ l. or-left _ (any-true f i l e)) (last-or h)
 
--- left early; and none passes
-pub all-false : {n : ℕ} (f : ℕ → Bool) (i : ℕ) → i < n → f i ≡ false → allBelow n f ≡ false
-all-false f i h e = fails (λ t. clash (all-at f t i h) e)
+-- none passes
+abbrev pub NoneBelow : ℕ → (ℕ → Bool) → Type 0
+NoneBelow n f = (i : ℕ) → i < n → f i ≡ false
 
-pub any-false : {n : ℕ} (f : ℕ → Bool) → anyBelow n f ≡ false → (i : ℕ) → i < n → f i ≡ false
+pub any-false : {n : ℕ} (f : ℕ → Bool) → anyBelow n f ≡ false → NoneBelow n f
 any-false f e i h = fails (λ t. clash (any-true f i h t) e)
 
-pub false-any : {n : ℕ} {f : ℕ → Bool} → ((i : ℕ) → i < n → f i ≡ false) → anyBelow n f ≡ false
+pub false-any : {n : ℕ} {f : ℕ → Bool} → NoneBelow n f → anyBelow n f ≡ false
 false-any h = fails (λ t. let w = any-at t in clash (w .2) (h (w .0) (w .1)))
+
+-- one fails: a loop over all is left early
+pub all-false : {n : ℕ} (f : ℕ → Bool) (i : ℕ) → i < n → f i ≡ false → allBelow n f ≡ false
+all-false f i h e = fails (λ t. clash (all-at f t i h) e)
 
 -- ---- two tests that agree below n
 pub all-same : {n : ℕ} {f g : ℕ → Bool} → ((i : ℕ) → i < n → f i ≡ g i) → allBelow n f ≡ allBelow n g
@@ -94,7 +95,7 @@ unfolding anyBelow
 any-same {n = zero} h = refl
 any-same {n = suc n} h = ap₂ _||_ (any-same {n = n} (λ i l. h i (omega arith))) (h n (omega arith))
 
--- every test fails: none passes
+-- every test fails exactly when none passes
 pub all-not : (n : ℕ) (f : ℕ → Bool) → allBelow n (λ i. not (f i)) ≡ not (anyBelow n f)
 unfolding allBelow anyBelow
 all-not zero f = refl
@@ -124,34 +125,33 @@ sum-le {n = suc n} h = add-le-add (sum-le {n = n} (λ i l. h i (omega arith))) (
 pub sum-lt : {n : ℕ} {f g : ℕ → ℕ} → ((i : ℕ) → i < n → f i ≤ g i) → (j : ℕ) → j < n → f j < g j → sumBelow n f < sumBelow n g
 unfolding sumBelow
 sum-lt {n = zero} h j l s = absurd (not-suc-le-zero l)
-sum-lt {n = suc n} {f} {g} h j l s = pick (λ k. sum-lt {n = n} (λ i m. h i (omega arith)) j k s) (sum-le {n = n} (λ i m. h i (omega arith))) (last-or l)
-  where
-    pick : (j < n → sumBelow n f < sumBelow n g) → sumBelow n f ≤ sumBelow n g → (j ≡ n) ⊎ (j < n) → sumBelow n f + f n < sumBelow n g + g n
-    pick less le (inl e) = omega (arith, subst (λ (i : ℕ). f i < g i) e s)
-    pick less le (inr k) = omega (arith, less k, h n (omega arith))
+sum-lt {n = suc n} {f} {g} h j l s =
+    let le : sumBelow n f ≤ sumBelow n g = sum-le {n = n} (λ i m. h i (omega arith)) in
+    ⊎-elim (λ e. omega (arith, subst (λ (i : ℕ). f i < g i) e s))
+    (λ k. omega (arith, sum-lt {n = n} {f = f} {g = g} (λ i m. h i (omega arith)) j k s, h n (omega arith))) (last-or l)
 
 -- ---- the first number that passes
 -- none below n, and not n: none below n + 1
-none-more : {n : ℕ} (f : ℕ → Bool) → ((b : ℕ) → b < n → f b ≡ false) → f n ≡ false → (b : ℕ) → b < suc n → f b ≡ false
-none-more f g e b h = ⊎-elim (λ p. ap f p ∙ e) (λ l. g b l) (last-or h)
+none-more : {n : ℕ} (f : ℕ → Bool) → NoneBelow n f → f n ≡ false → NoneBelow (suc n) f
+none-more f g e i h = ⊎-elim (λ p. ap f p ∙ e) (λ l. g i l) (last-or h)
 
 pub record Least (n : ℕ) (f : ℕ → Bool) : Type 0 where
   pub at : ℕ
   pub is : leastBelow n f ≡ some at
   pub below : at < n
   pub passes : f at ≡ true
-  pub first : (b : ℕ) → f b ≡ true → at ≤ b
+  pub first : (i : ℕ) → f i ≡ true → at ≤ i
 
-pub least-view : (n : ℕ) (f : ℕ → Bool) → Least n f ⊎ ((leastBelow n f ≡ none) × ((b : ℕ) → b < n → f b ≡ false))
+pub least-view : (n : ℕ) (f : ℕ → Bool) → Least n f ⊎ ((leastBelow n f ≡ none) × NoneBelow n f)
 unfolding leastBelow
-least-view zero f = inr (refl, λ b h. absurd (not-suc-le-zero h))
+least-view zero f = inr (refl, λ i h. absurd (not-suc-le-zero h))
 least-view (suc n) f = step (least-view n f) (f n) refl
   where
     next : Bool → Option ℕ → Option ℕ
     next x o = elim o [ some c ↦ some c | none ↦ cond x (some n) none ]
 
-    step : Least n f ⊎ ((leastBelow n f ≡ none) × ((b : ℕ) → b < n → f b ≡ false)) → (x : Bool) → f n ≡ x
-        → Least (suc n) f ⊎ ((next (f n) (leastBelow n f) ≡ none) × ((b : ℕ) → b < suc n → f b ≡ false))
+    step : Least n f ⊎ ((leastBelow n f ≡ none) × NoneBelow n f) → (x : Bool) → f n ≡ x
+        → Least (suc n) f ⊎ ((next (f n) (leastBelow n f) ≡ none) × NoneBelow (suc n) f)
     step (inl w) x e = inl record {
       at = w .at;
       is = ap (next (f n)) (w .is);
@@ -164,7 +164,7 @@ least-view (suc n) f = step (least-view n f) (f n) refl
       is = ap₂ next e (w .0);
       below = omega arith;
       passes = e;
-      first = λ b t. ⊎-elim (λ l. clash t (w .1 b l)) (λ l. l) (below-or b n);
+      first = λ i t. ⊎-elim (λ l. clash t (w .1 i l)) (λ l. l) (below-or i n);
     }
     step (inr w) false e = inr (ap₂ next e (w .0), none-more f (w .1) e)
 
@@ -177,31 +177,31 @@ pub record Greatest (n : ℕ) (f : ℕ → Bool) : Type 0 where
   pub is : greatestBelow n f ≡ some at
   pub below : at < n
   pub passes : f at ≡ true
-  pub last : (b : ℕ) → b < n → f b ≡ true → b ≤ at
+  pub last : (i : ℕ) → i < n → f i ≡ true → i ≤ at
 
-pub greatest-view : (n : ℕ) (f : ℕ → Bool) → Greatest n f ⊎ ((greatestBelow n f ≡ none) × ((b : ℕ) → b < n → f b ≡ false))
+pub greatest-view : (n : ℕ) (f : ℕ → Bool) → Greatest n f ⊎ ((greatestBelow n f ≡ none) × NoneBelow n f)
 unfolding greatestBelow
-greatest-view zero f = inr (refl, λ b h. absurd (not-suc-le-zero h))
+greatest-view zero f = inr (refl, λ i h. absurd (not-suc-le-zero h))
 greatest-view (suc n) f = step (greatest-view n f) (f n) refl
   where
     next : Bool → Option ℕ → Option ℕ
     next x o = cond x (some n) o
 
-    step : Greatest n f ⊎ ((greatestBelow n f ≡ none) × ((b : ℕ) → b < n → f b ≡ false)) → (x : Bool) → f n ≡ x
-        → Greatest (suc n) f ⊎ ((next (f n) (greatestBelow n f) ≡ none) × ((b : ℕ) → b < suc n → f b ≡ false))
+    step : Greatest n f ⊎ ((greatestBelow n f ≡ none) × NoneBelow n f) → (x : Bool) → f n ≡ x
+        → Greatest (suc n) f ⊎ ((next (f n) (greatestBelow n f) ≡ none) × NoneBelow (suc n) f)
     step w true e = inl record {
       at = n;
       is = ap (λ (x : Bool). next x (greatestBelow n f)) e;
       below = omega arith;
       passes = e;
-      last = λ b h t. le-of-suc-le-suc h;
+      last = λ i h t. le-of-suc-le-suc h;
     }
     step (inl w) false e = inl record {
       at = w .at;
       is = ap₂ next e (w .is);
       below = omega (arith, w .below);
       passes = w .passes;
-      last = λ b h t. ⊎-elim (λ p. clash (ap f (sym p) ∙ t) e) (λ l. w .last b l t) (last-or h);
+      last = λ i h t. ⊎-elim (λ p. clash (ap f (sym p) ∙ t) e) (λ l. w .last i l t) (last-or h);
     }
     step (inr w) false e = inr (ap₂ next e (w .0), none-more f (w .1) e)
 

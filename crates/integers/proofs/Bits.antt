@@ -41,6 +41,11 @@ bitAt-past h l = ap (λ (n : ℕ). n % 2) (div-eq-of-lt (lt-of-lt-of-le h (pow-m
 pub bitAt-none : (d : ℕ) → bitAt 0 d ≡ 0
 bitAt-none d = bitAt-past (pow-pos d) (le-refl d)
 
+-- a number with a bit is not 0
+pub bitAt-pos : {x : ℕ} (d : ℕ) → bitAt x d ≡ 1 → 0 < x
+bitAt-pos {x = zero} d e = absurd (omega (arith, sym (bitAt-none d) ∙ e))
+bitAt-pos {x = suc x} d e = omega arith
+
 -- ---- the bit test of a set
 pub bit-one : (z : ℤ) (d : ℕ) → bit z d ≡ true → bitAt (nat z) d ≡ 1
 unfolding bit
@@ -62,7 +67,11 @@ pub bit-past : {k d : ℕ} (z : ℤ) → nat z < 2 ^ k → k ≤ d → bit z d �
 bit-past {k} {d} z h l = zero-bit z d (bitAt-past h l)
 
 -- ---- fewer bits, a smaller number; the same bits, the same number
-parity : (x : ℕ) → (x % 2 ≡ 0) ⊎ (x % 2 ≡ 1)
+-- even or odd
+abbrev Parity : ℕ → Type 0
+Parity x = (x % 2 ≡ 0) ⊎ (x % 2 ≡ 1)
+
+parity : (x : ℕ) → Parity x
 parity x = ⊎-elim inl (λ f. inr (omega arith)) (same-or (x % 2) 0)
 
 pub bits-le : {a b : ℕ} → ((d : ℕ) → bitAt a d ≡ 1 → bitAt b d ≡ 1) → a ≤ b
@@ -72,7 +81,7 @@ bits-le {a} {b} = bin-ind (λ (a : ℕ). (b : ℕ) → ((d : ℕ) → bitAt a d 
         → (b : ℕ) → ((d : ℕ) → bitAt a d ≡ 1 → bitAt b d ≡ 1) → a ≤ b
     step a halves b h = by (halves (b / 2) (λ d e. sym (bitAt-suc b d) ∙ h (suc d) (bitAt-suc a d ∙ e))) (parity a)
       where
-        by : a / 2 ≤ b / 2 → (a % 2 ≡ 0) ⊎ (a % 2 ≡ 1) → a ≤ b
+        by : a / 2 ≤ b / 2 → Parity a → a ≤ b
         by l (inl e) = omega arith
         by l (inr e) = omega (arith, sym (bitAt-zero b) ∙ h 0 (bitAt-zero a ∙ e))
 
@@ -146,7 +155,7 @@ pub tz-lt : (k : ℕ) {x : ℕ} → x < 2 ^ k → 0 < x → trailingZeros k x < 
 tz-lt zero h p = absurd (omega arith)
 tz-lt (suc k) {x} h p = by (λ q. tz-lt k {x = x / 2} (omega arith) q) (parity x)
   where
-    by : (0 < x / 2 → trailingZeros k (x / 2) < k) → (x % 2 ≡ 0) ⊎ (x % 2 ≡ 1) → trailingZeros (suc k) x < suc k
+    by : (0 < x / 2 → trailingZeros k (x / 2) < k) → Parity x → trailingZeros (suc k) x < suc k
     by half (inl e) = omega (arith, tz-even k x e, half (omega arith))
     by half (inr e) = omega (arith, tz-odd k x e)
 
@@ -154,7 +163,7 @@ pub tz-bit : (k : ℕ) {x : ℕ} → x < 2 ^ k → 0 < x → bitAt x (trailingZe
 tz-bit zero h p = absurd (omega arith)
 tz-bit (suc k) {x} h p = by (λ q. tz-bit k {x = x / 2} (omega arith) q) (parity x)
   where
-    by : (0 < x / 2 → bitAt (x / 2) (trailingZeros k (x / 2)) ≡ 1) → (x % 2 ≡ 0) ⊎ (x % 2 ≡ 1) → bitAt x (trailingZeros (suc k) x) ≡ 1
+    by : (0 < x / 2 → bitAt (x / 2) (trailingZeros k (x / 2)) ≡ 1) → Parity x → bitAt x (trailingZeros (suc k) x) ≡ 1
     by half (inl e) = rw (tz-even k x e) (bitAt-suc x _ ∙ half (omega arith))
     by half (inr e) = rw (tz-odd k x e) (bitAt-zero x ∙ e)
 
@@ -163,7 +172,7 @@ unfolding trailingZeros
 tz-below zero x d h = absurd (omega arith)
 tz-below (suc k) x d h = by d (tz-below k (x / 2)) (parity x) h
   where
-    by : (d : ℕ) → ((c : ℕ) → c < trailingZeros k (x / 2) → bitAt (x / 2) c ≡ 0) → (x % 2 ≡ 0) ⊎ (x % 2 ≡ 1)
+    by : (d : ℕ) → ((c : ℕ) → c < trailingZeros k (x / 2) → bitAt (x / 2) c ≡ 0) → Parity x
         → d < trailingZeros (suc k) x → bitAt x d ≡ 0
     by d half (inr e) h = absurd (omega (arith, tz-odd k x e))
     by zero half (inl e) h = bitAt-zero x ∙ e
@@ -183,7 +192,7 @@ unfolding ones
 one-power zero {x} h o = let e : x ≡ 0 = omega arith in absurd (omega (arith, sym o ∙ ap ones e))
 one-power (suc k) {x} h o = by (λ q. one-power k {x = x / 2} (omega arith) q) (parity x)
   where
-    by : (ones (x / 2) ≡ 1 → x / 2 ≡ 2 ^ trailingZeros k (x / 2)) → (x % 2 ≡ 0) ⊎ (x % 2 ≡ 1) → x ≡ 2 ^ trailingZeros (suc k) x
+    by : (ones (x / 2) ≡ 1 → x / 2 ≡ 2 ^ trailingZeros k (x / 2)) → Parity x → x ≡ 2 ^ trailingZeros (suc k) x
     by half (inl e) = rw (tz-even k x e) (omega (arith, half (omega (arith, ones-step x))))
     by half (inr e) = rw (tz-odd k x e) (omega (arith, ones-none (x / 2) (omega (arith, ones-step x))))
 

@@ -1,12 +1,13 @@
 -- Linear facts over ℤ, for `omega`, which reads only the naturals: z is sent to its two parts, z = up z − dn z.
---     omega ints               proves ≤ℤ, <ℤ, ≡, Within, SFits w64 and the tests leZ, ltZ, eqZ, within from such facts in reach, with any of ℕ
+--     omega ints               proves ≤ℤ, <ℤ, ≡, Within, SFits w64 and the tests leZ, ltZ, eqZ, within, from such facts in reach and
+--                              facts of ℕ; what a passed `within` says it reads as `omega (ints, within-true e)`
 --     omega (ints, lin e)      the same with a sum: `lin (v a ⊕ v b ⊖ v c)` for a +ℤ b -ℤ c, a literal being `v (pos 1)`
 --     omega (ints, not-le h)   the same with a negated fact: not-le, not-lt, not-eq
 --     disjoint z, abs z        for a bound on the size of z
 -- Assumes nothing.
-use mathlib.Core.Path.{_≡_, refl, ap, _∙_, subst}
+use mathlib.Core.Path.{_≡_, refl, ap, ap₂, _∙_, subst}
 use mathlib.Core.Logic.{_≢_, _⊎_, inl, inr}
-use mathlib.Core.Bool.{Bool, true, false, not, cond, _||_}
+use mathlib.Core.Bool.{Bool, true, false, not, cond, _&&_, _||_}
 use Prim.Native.Nat.{ℕ, zero, suc, _+_, _-_, _^_, _≤_, _<_}
 use native.Mathlib.Omega.{arith}
 use borrow.Author.Tests.{eq-eqb, eqb-true, leb-true, leb-false, ltb-true, ltb-false}
@@ -17,7 +18,7 @@ use mir.Syntax.{w64}
 use mir.Val.{SFits, toZ, ofZ}
 use mir.Facts.{toZ-ofZ}
 use Rattle.integers.specs.Integer.{up, dn, eqZ, within}
-use Rattle.integers.proofs.Booleans.{true-T, T-true, clash, decide, passes, fails, both-ways, and-true, true-and, not-true, or-false, false-or}
+use Rattle.integers.proofs.Booleans.{true-T, T-true, clash, decide, passes, fails, and-true, true-and, nor, or-comm}
 
 -- ---- the tests, as a branch leaves them: what a test says of the parts, and the test from the parts
 pub leZ-true : (a b : ℤ) → leZ a b ≡ true → up a + dn b ≤ up b + dn a
@@ -111,6 +112,7 @@ eqZ-false a b e q = clash (true-eqZ a b q) e
 pub false-eqZ : (a b : ℤ) → up a + dn b ≢ up b + dn a → eqZ a b ≡ false
 false-eqZ a b f = fails (λ e. f (eqZ-true a b e))
 
+-- both ends as one equation, so that `omega` can turn a goal
 pub within-in : (a b z : ℤ) → (up a + dn z - (up z + dn a)) + (up z + dn b - (up b + dn z)) ≡ 0 → within a b z ≡ true
 unfolding within
 within-in a b z h = true-and (true-leZ a z (omega arith)) (true-leZ z b (omega arith))
@@ -247,22 +249,26 @@ within-false {a} {b} {z} e = by (decide (leZ a z))
     by (inl h) = inr (omega (ints, not-le (λ k. clash (true-within (le-of-test h) k) e)))
     by (inr h) = inl (omega ints)
 
--- of two boxes of sizes l and l' that start at p + t and at q + t': p is in the interval exactly when neither box starts at or past the other's end
+-- ---- two boxes in one dimension
+-- a test that passes exactly where another fails: b − a = c − d − 1
+pub opposite : (a b c d : ℤ) → up a + dn b + (up c + dn d) ≡ suc (up b + dn a + (up d + dn c)) → leZ a b ≡ not (leZ c d)
+opposite a b c d h = by (leZ c d) refl
+  where
+    by : (t : Bool) → leZ c d ≡ t → leZ a b ≡ not t
+    by true e = omega ints
+    by false e = omega ints
+
+-- a box of size l starts at p + t, another of size l' at q + t': p is in the interval exactly when neither starts at or past
+-- the other's end
 pub interval : (q t' l' t l p : ℤ)
     → within (q +ℤ t' -ℤ t -ℤ l +ℤ pos 1) (q +ℤ t' +ℤ l' -ℤ t -ℤ pos 1) p
     ≡ not (leZ (q +ℤ t' +ℤ l') (p +ℤ t) || leZ (p +ℤ t +ℤ l) (q +ℤ t'))
-interval q t' l' t l p = both-ways _ _ meet apart
-  where
-    meet : within (q +ℤ t' -ℤ t -ℤ l +ℤ pos 1) (q +ℤ t' +ℤ l' -ℤ t -ℤ pos 1) p ≡ true
-        → not (leZ (q +ℤ t' +ℤ l') (p +ℤ t) || leZ (p +ℤ t +ℤ l) (q +ℤ t')) ≡ true
-    meet e = let w = within-true e in ap not (false-or {a = leZ (q +ℤ t' +ℤ l') (p +ℤ t)} {b = leZ (p +ℤ t +ℤ l) (q +ℤ t')}
-        (omega (ints, lin (v q ⊕ v t' ⊕ v l'), lin (v p ⊕ v t), lin (v q ⊕ v t' ⊕ v l' ⊖ v t ⊖ v (pos 1))))
-        (omega (ints, lin (v p ⊕ v t ⊕ v l), lin (v q ⊕ v t'), lin (v q ⊕ v t' ⊖ v t ⊖ v l ⊕ v (pos 1)))))
-
-    apart : not (leZ (q +ℤ t' +ℤ l') (p +ℤ t) || leZ (p +ℤ t +ℤ l) (q +ℤ t')) ≡ true
-        → within (q +ℤ t' -ℤ t -ℤ l +ℤ pos 1) (q +ℤ t' +ℤ l' -ℤ t -ℤ pos 1) p ≡ true
-    apart e =
-        let w : (leZ (q +ℤ t' +ℤ l') (p +ℤ t) ≡ false) × (leZ (p +ℤ t +ℤ l) (q +ℤ t') ≡ false) = or-false (not-true e) in
-        true-within
-        (omega (ints, lin (v p ⊕ v t ⊕ v l), lin (v q ⊕ v t'), lin (v q ⊕ v t' ⊖ v t ⊖ v l ⊕ v (pos 1))))
-        (omega (ints, lin (v q ⊕ v t' ⊕ v l'), lin (v p ⊕ v t), lin (v q ⊕ v t' ⊕ v l' ⊖ v t ⊖ v (pos 1))))
+unfolding within
+interval q t' l' t l p =
+    ap₂ _&&_
+    (opposite (q +ℤ t' -ℤ t -ℤ l +ℤ pos 1) p (p +ℤ t +ℤ l) (q +ℤ t')
+    (omega (arith, lin (v q ⊕ v t' ⊖ v t ⊖ v l ⊕ v (pos 1)), lin (v p ⊕ v t ⊕ v l), lin (v q ⊕ v t'))))
+    (opposite p (q +ℤ t' +ℤ l' -ℤ t -ℤ pos 1) (q +ℤ t' +ℤ l') (p +ℤ t)
+    (omega (arith, lin (v q ⊕ v t' ⊕ v l' ⊖ v t ⊖ v (pos 1)), lin (v q ⊕ v t' ⊕ v l'), lin (v p ⊕ v t))))
+    ∙ nor (leZ (p +ℤ t +ℤ l) (q +ℤ t')) (leZ (q +ℤ t' +ℤ l') (p +ℤ t))
+    ∙ ap not (or-comm (leZ (p +ℤ t +ℤ l) (q +ℤ t')) (leZ (q +ℤ t' +ℤ l') (p +ℤ t)))

@@ -1,7 +1,7 @@
 -- Runs of words: the elements of lists made of a function, the words of a run with a part replaced, runs that are equal
 -- word for word. Assumes nothing.
 use mathlib.Core.Path.{_≡_, refl, sym, ap, ap₂, _∙_, subst}
-use mathlib.Core.Logic.{_⊎_, inl, inr, ⊎-elim}
+use mathlib.Core.Logic.{⊎-elim}
 use mathlib.Core.Bool.{Bool, true, false, not}
 use mathlib.Core.List.{List, [], _∷_, _++_, append-assoc}
 use Prim.Native.Nat.{ℕ, zero, suc, _+_, _-_, _*_, _≤_, _<_}
@@ -83,17 +83,18 @@ unfolding sameWords
 same-refl [] = refl
 same-refl (x ∷ xs) = true-and (eqZ-refl x) (same-refl xs)
 
-pub same-not : (xs ys : List ℤ) → length xs ≡ length ys → sameWords xs ys ≡ false → (k : ℕ) × (k < length xs) × (word xs k ≡ word ys k → ⊥)
-same-not xs ys l e = by (decide (anyBelow (length xs) differ))
+pub same-not : (xs ys : List ℤ) → length xs ≡ length ys → sameWords xs ys ≡ false
+    → (k : ℕ) × (k < length xs) × (word xs k ≡ word ys k → ⊥)
+same-not xs ys l e =
+    ⊎-elim (λ t. let w = any-at t in (w .0, w .1, λ q. clash (eq-eqZ q) (not-true (w .2))))
+    (λ t. clash (same (words-ext l (λ k h. eqZ-eq (not-false (any-false differ t k h))))) e)
+    (decide (anyBelow (length xs) differ))
   where
     differ : ℕ → Bool
     differ k = not (eqZ (word xs k) (word ys k))
 
-    by : (anyBelow (length xs) differ ≡ true) ⊎ (anyBelow (length xs) differ ≡ false) → (k : ℕ) × (k < length xs) × (word xs k ≡ word ys k → ⊥)
-    by (inl t) = let w = any-at t in (w .0, w .1, λ q. clash (eq-eqZ q) (not-true (w .2)))
-    by (inr t) =
-        let q : xs ≡ ys = words-ext l (λ k h. eqZ-eq (not-false (any-false differ t k h))) in
-        clash (subst (λ (zs : List ℤ). sameWords xs zs ≡ true) q (same-refl xs)) e
+    same : xs ≡ ys → sameWords xs ys ≡ true
+    same q = subst (λ (zs : List ℤ). sameWords xs zs ≡ true) q (same-refl xs)
 
 -- ---- a run with a part replaced
 module _ (words : List ℤ) (at : ℕ) (new : List ℤ) (fits : at + length new ≤ length words) where
@@ -134,7 +135,8 @@ replaced-none words at = ap (λ (n : ℕ). take at words ++ drop n words) (add-z
 pub replaced-more : (words : List ℤ) (at : ℕ) (new : List ℤ) (v : ℤ) → at + length new < length words
     → set (replaced words at new) (at + length new) v ≡ replaced words at (new ++ (v ∷ []))
 unfolding replaced
-replaced-more words at new v h = ap (λ (l : List ℤ). set l (at + length new) v) front ∙ set-at (take at words ++ new) _ _ v (at + length new) long ∙ back
+replaced-more words at new v h =
+    ap (λ (l : List ℤ). set l (at + length new) v) front ∙ set-at (take at words ++ new) _ _ v (at + length new) long ∙ back
   where
     front : take at words ++ (new ++ drop (at + length new) words)
         ≡ take at words ++ new ++ getD words (at + length new) (pos 0) ∷ drop (suc (at + length new)) words

@@ -3,7 +3,7 @@
 use mathlib.Core.Path.{_≡_, ap}
 use mathlib.Core.Logic.{⊎-elim}
 use mathlib.Core.Bool.{true}
-use Prim.Native.Nat.{ℕ, _+_, _*_, _≤_, _<_}
+use Prim.Native.Nat.{ℕ, suc, _+_, _-_, _*_, _≤_, _<_}
 use native.Mathlib.Nat.{mul-le-mul-right, suc-mul}
 use lib.Dec.{eqb}
 use borrow.Author.Tests.{eqb-true, eq-eqb}
@@ -11,7 +11,7 @@ use lib.IntN.{ℤ, pos, natAbs, _+ℤ_, _-ℤ_}
 use lib.Signed.{_≤ℤ_, _<ℤ_, leZ}
 use Rattle.integers.specs.Integer.{nat, up, dn, eqZ, within, width}
 use Rattle.integers.proofs.Booleans.{both-ways, decide}
-use Rattle.integers.proofs.Ints.{ints, abs, disjoint, lin, v, _⊕_, _⊖_, not-eq, eqZ-eq, within-true}
+use Rattle.integers.proofs.Ints.{ints, abs, disjoint, sum, diff, lin, v, _⊕_, _⊖_, not-eq, eqZ-eq, within-true}
 
 -- ---- counts
 pub le-nat : {n : ℕ} {z : ℤ} → pos n ≤ℤ z → n ≤ nat z
@@ -38,41 +38,38 @@ nat-is {z} h n = both-ways _ _
     (λ e. eq-eqb (nat z) n (ap nat (eqZ-eq e)))
 
 -- ---- ranges
+-- a count from a, and the number of integers from a to b, in parts
+pub nat-diff : (z a : ℤ) → nat (z -ℤ a) ≡ (up z + dn a) - (up a + dn z)
+nat-diff z a = omega (ints, diff z a, disjoint (z -ℤ a))
+
+pub width-is : (a b : ℤ) → width a b ≡ suc (up b + dn a) - (up a + dn b)
+unfolding width
+width-is a b = omega (ints, lin (v b ⊖ v a ⊕ v (pos 1)), disjoint (b -ℤ a +ℤ pos 1))
+
 pub count : {a z : ℤ} → a ≤ℤ z → a +ℤ pos (nat (z -ℤ a)) ≡ z
-count {a} {z} h = omega (ints, lin (v z ⊖ v a), disjoint (z -ℤ a), lin (v a ⊕ v (pos (nat (z -ℤ a)))))
+count {a} {z} h = omega (ints, nat-diff z a, sum a (pos (nat (z -ℤ a))))
 
 pub count-below : {a b z : ℤ} → a ≤ℤ z → z ≤ℤ b → nat (z -ℤ a) < width a b
-unfolding width
-count-below {a} {b} {z} h k = omega (ints, lin (v z ⊖ v a), disjoint (z -ℤ a), lin (v b ⊖ v a ⊕ v (pos 1)))
+count-below {a} {b} {z} h k = omega (ints, nat-diff z a, width-is a b)
 
 -- and back: what is counted lies in the range
 pub below-width : (a b : ℤ) {m : ℕ} → m < width a b → (a +ℤ pos m) ≤ℤ b
-unfolding width
-below-width a b {m} h = omega (ints, lin (v a ⊕ v (pos m)), lin (v b ⊖ v a ⊕ v (pos 1)), disjoint (b -ℤ a +ℤ pos 1))
+below-width a b {m} h = omega (ints, sum a (pos m), width-is a b)
 
 pub counts : (a : ℤ) {m n : ℕ} → m ≤ n → (a +ℤ pos m) ≤ℤ (a +ℤ pos n)
-counts a {m} {n} h = omega (ints, lin (v a ⊕ v (pos m)), lin (v a ⊕ v (pos n)))
+counts a {m} {n} h = omega (ints, sum a (pos m), sum a (pos n))
+
+pub width-none : {a b : ℤ} → b <ℤ a → width a b ≡ 0
+width-none {a} {b} h = omega (ints, width-is a b)
 
 pub width-le : {a b a' b' : ℤ} → a ≤ℤ a' → b' ≤ℤ b → width a' b' ≤ width a b
-unfolding width
-width-le {a} {b} {a'} {b'} h k =
-    omega (ints, lin (v b ⊖ v a ⊕ v (pos 1)), lin (v b' ⊖ v a' ⊕ v (pos 1)), disjoint (b -ℤ a +ℤ pos 1), disjoint (b' -ℤ a' +ℤ pos 1))
+width-le {a} {b} {a'} {b'} h k = omega (ints, width-is a b, width-is a' b')
 
 -- a range that is not empty, and a part of it that is not the whole
 pub width-lt : {a b a' b' : ℤ} → a ≤ℤ b → a ≤ℤ a' → b' ≤ℤ b → (a ≡ a' → b ≡ b' → ⊥) → width a' b' < width a b
-unfolding width
-width-lt {a} {b} {a'} {b'} o h k ne = falls (⊎-elim (λ e. ends (omega ints)) (λ e. omega ints) (decide (leZ a' a)))
-  where
-    ends : a ≡ a' → up a + dn a' + (up b' + dn b) < up a' + dn a + (up b + dn b')
-    ends e = omega (ints, not-eq (ne e))
-
-    falls : up a + dn a' + (up b' + dn b) < up a' + dn a + (up b + dn b') → nat (b' -ℤ a' +ℤ pos 1) < nat (b -ℤ a +ℤ pos 1)
-    falls l =
-        omega (ints, lin (v b ⊖ v a ⊕ v (pos 1)), lin (v b' ⊖ v a' ⊕ v (pos 1)), disjoint (b -ℤ a +ℤ pos 1), disjoint (b' -ℤ a' +ℤ pos 1))
-
-pub width-none : {a b : ℤ} → b <ℤ a → width a b ≡ 0
-unfolding width
-width-none {a} {b} h = omega (ints, lin (v b ⊖ v a ⊕ v (pos 1)), disjoint (b -ℤ a +ℤ pos 1))
+width-lt {a} {b} {a'} {b'} o h k ne =
+    ⊎-elim (λ e. let q : a ≡ a' = omega ints in omega (ints, not-eq (ne q), width-is a b, width-is a' b'))
+    (λ e. omega (ints, width-is a b, width-is a' b')) (decide (leZ a' a))
 
 -- ---- record j of n records of w words each lies whole among them
 pub record-ends : {j n : ℕ} (w : ℕ) → j < n → j * w + w ≤ n * w

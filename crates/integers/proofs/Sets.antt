@@ -10,25 +10,26 @@ use native.Mathlib.Omega.{arith}
 use borrow.Author.Tests.{eq-eqb, eqb-true}
 use lib.Count.{ones, trailingZeros}
 use lib.Dec.{eqb}
-use lib.IntN.{ℤ, pos, negsuc}
+use lib.IntN.{ℤ, pos}
 use lib.Pow.{pow-pos, pow-mono}
 use lib.Signed.{_≤ℤ_}
 use Rattle.integers.specs.Integer.{nat}
 use Rattle.integers.specs.Bits.{bitAt, bit, holds, holdsOnly, setOf}
 use Rattle.integers.proofs.Booleans.{clash, decide, fails, both-ways}
-use Rattle.integers.proofs.Ints.{ints, eqZ-eq, eq-eqZ}
+use Rattle.integers.proofs.Ints.{ints, disjoint, eqZ-eq, eq-eqZ}
 use Rattle.integers.proofs.Below.{below-or, last-or}
 use Rattle.integers.proofs.Ranges.{le-nat, nat-le, pos-nat}
-use Rattle.integers.proofs.Bits.{bitAt-none, bitAt-past, bit-one, one-bit, same-bit, bit-past, bits-le, some-bit, place-high, place-low, Only, power-only, only-power, only-one, one-only}
+use Rattle.integers.proofs.Bits.{bitAt-past, bitAt-pos, bit-one, one-bit, same-bit, bit-past, bits-le, some-bit, place-high, place-low}
+use Rattle.integers.proofs.Bits.{Only, power-only, only-power, only-one, one-only}
 
 -- ---- the numbers of a set
 pub none-zero : (z : ℤ) → holds z 0 ≡ false
 unfolding holds
 none-zero z = refl
 
-pub held-from-1 : (z : ℤ) {s : ℕ} → holds z s ≡ true → 1 ≤ s
-held-from-1 z {s = zero} e = clash e (none-zero z)
-held-from-1 z {s = suc m} e = omega arith
+pub member-ge-1 : (z : ℤ) {s : ℕ} → holds z s ≡ true → 1 ≤ s
+member-ge-1 z {s = zero} e = clash e (none-zero z)
+member-ge-1 z {s = suc m} e = omega arith
 
 -- the code's bit i − 1
 pub set-bit : (z : ℤ) (i : ℕ) → 1 ≤ i → bit z (i - 1) ≡ holds z i
@@ -45,23 +46,18 @@ one-held : (z : ℤ) (m : ℕ) → bitAt (nat z) m ≡ 1 → holds z (suc m) ≡
 unfolding holds
 one-held z m e = one-bit z m e
 
--- a set that holds a number is at least 1, so that a negative one holds none; and the other way round
-pub held-living : (z : ℤ) (s : ℕ) → holds z s ≡ true → pos 1 ≤ℤ z
-held-living z zero e = clash e (none-zero z)
-held-living (pos n) (suc m) e = by n (held-one (pos n) m e)
-  where
-    by : (n : ℕ) → bitAt n m ≡ 1 → pos 1 ≤ℤ pos n
-    by zero e = absurd (omega (arith, sym (bitAt-none m) ∙ e))
-    by (suc n) e = omega ints
-held-living (negsuc n) (suc m) e = absurd (omega (arith, sym (bitAt-none m) ∙ held-one (negsuc n) m e))
+-- a set that holds a number is at least 1, so that 0 and a negative number hold none; and the other way round
+pub set-ge-1 : (z : ℤ) (s : ℕ) → holds z s ≡ true → pos 1 ≤ℤ z
+set-ge-1 z zero e = clash e (none-zero z)
+set-ge-1 z (suc m) e = omega (ints, disjoint z, bitAt-pos m (held-one z m e))
 
 pub none-negative : {z : ℤ} → z ≤ℤ pos 0 → (s : ℕ) → holds z s ≡ false
-none-negative {z} h s = fails (λ e. omega (ints, held-living z s e))
+none-negative {z} h s = fails (λ e. omega (ints, set-ge-1 z s e))
 
 pub living-set : {z : ℤ} → pos 1 ≤ℤ z → (s : ℕ) × (holds z s ≡ true)
 living-set {z} h = let w = some-bit (nat z) (le-nat h) in (suc (w .0), one-held z (w .0) (w .1))
 
--- a number of n digits holds none above n
+-- a number of n digits holds none above n; the greatest is the set of all from 1 to n
 pub set-below : {z : ℤ} (n : ℕ) → z ≤ℤ pos (2 ^ n - 1) → nat z < 2 ^ n
 set-below n h = omega (arith, nat-le h, pow-pos n)
 
@@ -92,7 +88,7 @@ only-bit z m e = subst (λ (n : ℕ). Only n m) (sym (ap nat (only-eq z m e))) (
 
 pub bit-only : (z : ℤ) (m : ℕ) → Only (nat z) m → holdsOnly z (suc m) ≡ true
 unfolding holdsOnly
-bit-only z m o = eq-eqZ (sym (pos-nat (omega (ints, held-living z (suc m) (one-held z m (o .here))))) ∙ ap pos (only-power o))
+bit-only z m o = eq-eqZ (sym (pos-nat (omega (ints, set-ge-1 z (suc m) (one-held z m (o .here))))) ∙ ap pos (only-power o))
 
 pub only-held : (z : ℤ) (s : ℕ) → holdsOnly z s ≡ true → holds z s ≡ true
 unfolding holds holdsOnly
@@ -173,7 +169,7 @@ holds-setOf n f (suc d) h k = bit-setOf n f d k
 pub setOf-holds : (n : ℕ) (f : ℕ → Bool) (s : ℕ) → holds (pos (setOf n f)) s ≡ true → (s ≤ n) × (f s ≡ true)
 setOf-holds n f s e =
     let k : s ≤ n = small-set (omega (ints, setOf-below n f)) e in
-    (k, sym (holds-setOf n f s (held-from-1 (pos (setOf n f)) e) k) ∙ e)
+    (k, sym (holds-setOf n f s (member-ge-1 (pos (setOf n f)) e) k) ∙ e)
 
 -- two tests that agree from 1 to n; and a test that fails there
 pub setOf-same : {n : ℕ} {f g : ℕ → Bool} → ((s : ℕ) → 1 ≤ s → s ≤ n → f s ≡ g s) → setOf n f ≡ setOf n g

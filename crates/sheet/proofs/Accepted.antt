@@ -21,7 +21,7 @@ use Rattle.integers.proofs.Below.{all-at, at-all, any-at, any-true, upto-at, at
 use Rattle.integers.proofs.Ints.{ints, eqZ-eq, le-of-test, test-of-le, within-true, true-within}
 use Rattle.integers.proofs.Machine.{within-test, within-pos, within-by, from-within}
 use Rattle.integers.proofs.Ranges.{nat-from}
-use Rattle.integers.proofs.Sets.{small-set, held-from-1}
+use Rattle.integers.proofs.Sets.{small-set, member-ge-1}
 use Rattle.sheet.specs.Layout.{Lent, dims, axes, boxes, rules, rowLen, blockLen, shapeOf, offset, size, isOf, validBox, kind, isNonOverlap, isContainment, dimSet, rowSet, roomLow, roomHigh, namesDim, validEnds, validRule, rows, shapeSet, low, high, hasShape, validRow}
 use Rattle.sheet.specs.Refusal.{_when_, _else_, badHead, badCounts, badBlockLength, badTableLength, badBox, badRule, badRow, refusal}
 use Rattle.sheet.specs.Accepted.{Count, Head, Block, Rows, Boxed, Table}
@@ -129,7 +129,7 @@ module _ (lent : Lent) where
       record {
         set-from = set .0; set-upto = set .1;
         boxed = λ s h.
-          let w = any-at (implies-true (upto-at (shape-test t i) (q .1) s (held-from-1 (shapeSet lent t i) h) (small-set {n = 32} (set .1) h)) h) in
+          let w = any-at (implies-true (upto-at (shape-test t i) (q .1) s (member-ge-1 (shapeSet lent t i) h) (small-set {n = 32} (set .1) h)) h) in
           record { box = w .0; below = w .1; is = w .2 };
         low-in = λ d l. ends d l .0; high-in = λ d l. ends d l .1; ordered = λ d l. ends d l .2 }
 

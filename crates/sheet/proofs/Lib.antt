@@ -1,6 +1,15 @@
+pub mod Accepted
 pub mod Forbidden
 pub mod Coordinates
+pub mod Exchange
+pub mod Fixed
+pub mod Catalogue
 pub mod Points
 pub mod Extremes
-pub mod Accepted
+pub mod Rows
+pub mod Monotone
+pub mod Narrows
+pub mod Inside
+pub mod Steps
+pub mod Demand3
 pub mod Marked

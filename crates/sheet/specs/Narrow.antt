@@ -1,5 +1,5 @@
 -- Narrowing one row: what it must leave, as a statement about any finding, and a definition that computes it. That the
--- definition finds what the statement asks is proofs/Narrowing.antt. A finding is an option: none is 'no place', and the table
+-- definition finds what the statement asks is proofs/Narrows.antt. A finding is an option: none is 'no place', and the table
 -- is unchanged; some table is 'narrowed', to that. Assumes nothing.
 use mathlib.Core.Path.{_≡_}
 use mathlib.Core.Logic.{_↔_}

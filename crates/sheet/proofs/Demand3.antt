@@ -1,0 +1,133 @@
+-- MISSION DEMAND 3 of the definition: for every accepted sheet `settleOf` finds 'no layout' exactly when no settled table lies inside
+-- the given one, and otherwise the settled table inside that contains every other (`demand-3`); a finding with that property is unique,
+-- whatever finds it and in whatever order of rows (`demand-3-unique`). What is left is accepted again (`narrowed-accepted`, `settled-accepted`).
+-- The proof gives crates/fixpoint its laws (`laws`). Assumes nothing.
+use mathlib.Core.Path.{_≡_, refl, sym, ap, _∙_, subst, subst⁻¹}
+use mathlib.Core.Logic.{_⊎_, inl, inr, ⊎-elim}
+use mathlib.Core.Bool.{Bool, true, false}
+use mathlib.Core.List.{List}
+use mathlib.Core.Option.{Option, none, some}
+use Prim.Native.Nat.{ℕ, zero, suc, _≤_, _<_}
+use native.Mathlib.Omega.{arith}
+use lib.ListN.{length}
+use lib.IntN.{ℤ}
+use Rattle.integers.specs.Words.{sameWords}
+use Rattle.integers.proofs.Sets.{living-set}
+use Rattle.integers.proofs.Lists.{same-eq, same-refl}
+use Rattle.fixpoint.specs.Finding.{Survives}
+use Rattle.fixpoint.specs.Laws.{Laws, Still}
+use Rattle.fixpoint.proofs.Settle.{settle-finds, settles}
+use Rattle.sheet.specs.Layout.{Lent, axes, rows, shapeSet, low, high, hasShape}
+use Rattle.sheet.specs.Narrow.{Stands, Narrowed, Narrows, noPlace, narrowed, narrowOf}
+use Rattle.sheet.specs.Settle.{Settled, Inside, Settles, extent, settleOf}
+use Rattle.sheet.specs.Refusal.{refusal}
+use Rattle.sheet.specs.Accepted.{Head, Table}
+use Rattle.sheet.proofs.Accepted.{accepted-head, accepted-table, rows-same, accepted-again}
+use Rattle.sheet.proofs.Narrows.{narrow-finds}
+use Rattle.sheet.proofs.Inside.{inside-refl, inside-trans, inside-antisym, inside-falls}
+use Rattle.sheet.proofs.Steps.{settled-table, stands-outside, narrowed-inside, narrowed-table, narrowed-keeps}
+
+module _ (lent : Lent) where
+  -- each row of a table that keeps `Table` has a shape
+  pub living : {t : List ℤ} → Table lent t → (i : ℕ) → 1 ≤ i → i ≤ rows lent t → (s : ℕ) × (hasShape lent t i s ≡ true)
+  unfolding hasShape
+  living table i h k = living-set (table .sets-from i h k)
+
+  -- a narrowing that leaves a table, taken apart
+  record Left (t : List ℤ) (i : ℕ) (v : List ℤ) : Type 0 where
+    point : List ℤ
+    stands : Stands lent t i point
+    left : Narrowed lent t i v
+
+  left-by : {t : List ℤ} {i : ℕ} {v : List ℤ} → Narrows lent t i (some v) → Left t i v
+  left-by (narrowed p st n) = record { point = p; stands = st; left = n }
+
+  -- ---- the tables on the way from t₀
+  module _ (dims : 0 < axes lent) (t₀ : List ℤ) where
+    pub record Good (t : List ℤ) : Type 0 where
+      pub table : Table lent t
+      pub as-long : length t ≡ length t₀
+
+    abbrev pub narrow : ℕ → List ℤ → Option (List ℤ)
+    narrow m t = narrowOf lent t (suc m)
+
+    row-in : {t : List ℤ} (m : ℕ) → Good t → m < rows lent t₀ → suc m ≤ rows lent t
+    row-in {t} m g h = subst (λ (n : ℕ). m < n) (sym (rows-same lent t t₀ (g .as-long))) h
+
+    finds : (t : List ℤ) (m : ℕ) → Good t → m < rows lent t₀ → Narrows lent t (suc m) (narrow m t)
+    finds t m g h = narrow-finds lent t (g .table) (suc m) (omega arith) (row-in m g h)
+
+    left : (t v : List ℤ) (m : ℕ) → Good t → m < rows lent t₀ → narrow m t ≡ some v → Left t (suc m) v
+    left t v m g h e = left-by (subst (λ (o : Option (List ℤ)). Narrows lent t (suc m) o) e (finds t m g h))
+
+    survives : (t u : List ℤ) (m : ℕ) → Good t → m < rows lent t₀ → Settled lent u → Inside lent u t
+        → (o : Option (List ℤ)) → Narrows lent t (suc m) o → Survives (Inside lent) u o
+    survives t u m g h s x none (noPlace f) =
+        let k = row-in m g h in
+        let r = s .lows (suc m) 0 (omega arith) (subst (λ (n : ℕ). suc m ≤ n) (sym (rows-same lent u t (x .as-long))) k) dims in
+        f (r .point) (stands-outside lent dims u t s x (suc m) (r .point) (omega arith) k (r .by))
+    survives t u m g h s x (some v) (narrowed p st n) =
+        narrowed-keeps lent t v (suc m) (omega arith) (row-in m g h) n dims u s x
+
+    inside-of : (t v : List ℤ) (m : ℕ) → Good t → m < rows lent t₀ → narrow m t ≡ some v → Inside lent v t
+    inside-of t v m g h e = narrowed-inside lent t v (suc m) (omega arith) (row-in m g h) (left t v m g h e .left)
+
+    good-of : (t v : List ℤ) (m : ℕ) → Good t → m < rows lent t₀ → narrow m t ≡ some v → Good v
+    good-of t v m g h e =
+        let w = left t v m g h e in
+        record {
+          table = narrowed-table lent t v (suc m) (omega arith) (row-in m g h) (w .left) (w .point) (w .stands) (g .table) (living (g .table));
+          as-long = w .left .as-long ∙ g .as-long }
+
+    settled-still : (t : List ℤ) → Good t → Still narrow (rows lent t₀) t → Settled lent t
+    settled-still t g still =
+        let at : (i : ℕ) → 1 ≤ i → i ≤ rows lent t → Narrowed lent t i t = λ i h k. each-row i h k in
+        record {
+          lows = λ i d h k l. at i h k .lows d l;
+          highs = λ i d h k l. at i h k .highs d l;
+          shapes = λ i s h k e. at i h k .shapes s .0 e .1 }
+      where
+        each-row : (i : ℕ) → 1 ≤ i → i ≤ rows lent t → Narrowed lent t i t
+        each-row (suc m) h k =
+            let l : m < rows lent t₀ = subst (λ (n : ℕ). m < n) (rows-same lent t t₀ (g .as-long)) k in
+            left t t m g l (still m l) .left
+        each-row zero h k = absurd (omega arith)
+
+    pub laws : Laws (Inside lent) (Settled lent) Good narrow sameWords (rows lent t₀) (extent lent)
+    laws =
+        record {
+          rfl = inside-refl lent;
+          trans = λ x y. inside-trans lent x y;
+          antisym = λ {s} {t} {u} g x y st su a b.
+            inside-antisym lent t u (settled-table lent dims t s st x (g .table)) (settled-table lent dims u s su y (g .table)) a b;
+          equal = λ t u. (λ e. same-eq e, λ e. subst (λ (y : List ℤ). sameWords t y ≡ true) e (same-refl t));
+          keeps = λ {i} {t} {u} h g s x. survives t u i g h s x (narrow i t) (finds t i g h);
+          good = λ {i} {t} {v} h g e. good-of t v i g h e;
+          shrinks = λ {i} {t} {v} h g e. inside-of t v i g h e;
+          falls = λ {i} {t} {v} h g e. inside-falls lent v t (good-of t v i g h e .table) (g .table) (inside-of t v i g h e);
+          still = λ {t} g s. settled-still t g s }
+
+  -- ---- an accepted sheet
+  module _ (t : List ℤ) (accepted : refusal lent t ≡ 0) where
+    pub some-axes : 0 < axes lent
+    some-axes = accepted-head lent t accepted .some-axes
+
+    pub good-start : Good some-axes t t
+    good-start = record { table = accepted-table lent t accepted; as-long = refl }
+
+    pub demand-3 : Settles lent t (settleOf lent t)
+    unfolding settleOf
+    demand-3 = settle-finds (laws some-axes t) t good-start
+
+    pub demand-3-unique : (r : Option (List ℤ)) → Settles lent t r → settleOf lent t ≡ r
+    unfolding settleOf
+    demand-3-unique r h = settles (laws some-axes t) {r = r} good-start h
+
+    pub narrowed-accepted : (i : ℕ) (v : List ℤ) → 1 ≤ i → i ≤ rows lent t → narrowOf lent t i ≡ some v → refusal lent v ≡ 0
+    narrowed-accepted i v h k e =
+        let table = accepted-table lent t accepted in
+        let w = left-by (subst (λ (o : Option (List ℤ)). Narrows lent t i o) e (narrow-finds lent t table i h k)) in
+        accepted-again lent t v accepted (w .left .as-long) (narrowed-table lent t v i h k (w .left) (w .point) (w .stands) table (living table))
+
+    pub settled-accepted : (u : List ℤ) → Settled lent u → Inside lent u t → refusal lent u ≡ 0
+    settled-accepted u s x = accepted-again lent t u accepted (x .as-long) (settled-table lent some-axes u t s x (accepted-table lent t accepted))

@@ -1,0 +1,115 @@
+-- What a narrowed row means for settled tables, from the statement `Narrowed` alone: the table left lies inside the one before
+-- (`narrowed-inside`), keeps `Table` (`narrowed-table`), and every settled table inside the one before lies inside it (`narrowed-keeps`).
+-- Assumes nothing.
+use mathlib.Core.Path.{_≡_, refl, sym, ap, ap₂, _∙_, subst, subst⁻¹}
+use mathlib.Core.Logic.{_⊎_, inl, inr, ⊎-elim}
+use mathlib.Core.Bool.{Bool, true, false}
+use mathlib.Core.List.{List}
+use Prim.Native.Nat.{ℕ, suc, _≤_, _<_}
+use lib.ListN.{length}
+use lib.IntN.{ℤ, pos}
+use lib.Signed.{_≤ℤ_, ≤ℤ-refl}
+use Rattle.integers.specs.Words.{word}
+use Rattle.integers.proofs.Below.{same-or}
+use Rattle.integers.proofs.Ints.{ints, ≤ℤ-trans}
+use Rattle.sheet.specs.Layout.{Lent, axes, rows, low, high, hasShape}
+use Rattle.sheet.specs.Allowed.{allowed}
+use Rattle.sheet.specs.Narrow.{Stands, Reached, Narrowed}
+use Rattle.sheet.specs.Settle.{Settled, Inside}
+use Rattle.sheet.specs.Accepted.{Table}
+use Rattle.sheet.proofs.Accepted.{rows-same}
+use Rattle.sheet.proofs.Forbidden.{allowed-parts, in-range}
+use Rattle.sheet.proofs.Monotone.{still-allowed}
+use Rattle.sheet.proofs.Rows.{low-other, high-other, shape-other}
+use Rattle.sheet.proofs.Inside.{inside-table}
+
+module _ (lent : Lent) where
+  -- ---- a settled table inside another
+  module _ (dims : 0 < axes lent) (u t : List ℤ) (settled : Settled lent u) (x : Inside lent u t) where
+    rows-of : (i : ℕ) → i ≤ rows lent t → i ≤ rows lent u
+    rows-of i k = subst (λ (n : ℕ). i ≤ n) (sym (rows-same lent u t (x .as-long))) k
+
+    pub alive : (j : ℕ) → 1 ≤ j → j ≤ rows lent t → (s : ℕ) × (hasShape lent u j s ≡ true)
+    alive j h k = let w = settled .lows j 0 h (rows-of j k) dims in (w .by .shape, w .by .held)
+
+    -- its points are points of the outer table
+    pub stands-outside : (i : ℕ) (p : List ℤ) → 1 ≤ i → i ≤ rows lent t → Stands lent u i p → Stands lent t i p
+    stands-outside i p h k w =
+        record {
+          shape = w .shape; held = x .shapes i (w .shape) h k (w .held);
+          stands = still-allowed lent u t x alive i (w .shape) p h k (w .stands) }
+
+    pub settled-table : Table lent t → Table lent u
+    settled-table table = inside-table lent u t table x alive ordered
+      where
+        ordered : (i d : ℕ) → 1 ≤ i → i ≤ rows lent t → d < axes lent → low lent u i d ≤ℤ high lent u i d
+        ordered i d h k l =
+            let r = settled .lows i d h (rows-of i k) l in
+            let w = in-range lent u i d (r .point) (allowed-parts lent u i (r .by .shape) (r .point) (r .by .stands) .0) l in
+            ≤ℤ-trans (w .0) (w .1)
+
+  -- ---- row i narrowed
+  module _ (t v : List ℤ) (i : ℕ) (from : 1 ≤ i) (upto : i ≤ rows lent t) (n : Narrowed lent t i v) where
+    -- a fact of each row: of row i, and of a row that keeps its words
+    each : (P : ℕ → Type 0) → P i → ((q : ℕ) → (q ≡ i → ⊥) → P q) → (q : ℕ) → P q
+    each P here other q = ⊎-elim (λ e. subst⁻¹ P e here) (λ ne. other q ne) (same-or q i)
+
+    -- an end of row i lies in the range before
+    reached-in : (d : ℕ) (z : ℤ) → d < axes lent → Reached lent t i d z → (low lent t i d ≤ℤ z) × (z ≤ℤ high lent t i d)
+    reached-in d z l r =
+        let w = in-range lent t i d (r .point) (allowed-parts lent t i (r .by .shape) (r .point) (r .by .stands) .0) l in
+        (subst (λ (y : ℤ). low lent t i d ≤ℤ y) (r .there) (w .0), subst (λ (y : ℤ). y ≤ℤ high lent t i d) (r .there) (w .1))
+
+    pub narrowed-inside : Inside lent v t
+    narrowed-inside =
+        record {
+          as-long = n .as-long;
+          lows = λ q d h k l. each (λ (q : ℕ). 1 ≤ q → low lent t q d ≤ℤ low lent v q d)
+            (λ h. reached-in d _ l (n .lows d l) .0)
+            (λ q ne h. subst⁻¹ (λ (z : ℤ). low lent t q d ≤ℤ z) (low-other lent t v i from (n .others) q d h ne l) (≤ℤ-refl _)) q h;
+          highs = λ q d h k l. each (λ (q : ℕ). 1 ≤ q → high lent v q d ≤ℤ high lent t q d)
+            (λ h. reached-in d _ l (n .highs d l) .1)
+            (λ q ne h. subst⁻¹ (λ (z : ℤ). z ≤ℤ high lent t q d) (high-other lent t v i from (n .others) q d h ne l) (≤ℤ-refl _)) q h;
+          shapes = λ q s h k. each (λ (q : ℕ). 1 ≤ q → hasShape lent v q s ≡ true → hasShape lent t q s ≡ true)
+            (λ h e. n .shapes s .0 e .0)
+            (λ q ne h e. sym (shape-other lent t v i from (n .others) q s h ne) ∙ e) q h }
+
+    pub narrowed-table : (p : List ℤ) → Stands lent t i p → (table : Table lent t) → ((j : ℕ) → 1 ≤ j → j ≤ rows lent t → (s : ℕ) × (hasShape lent t j s ≡ true)) → Table lent v
+    narrowed-table p st table living = inside-table lent v t table narrowed-inside kept ordered
+      where
+        kept : (j : ℕ) → 1 ≤ j → j ≤ rows lent t → (s : ℕ) × (hasShape lent v j s ≡ true)
+        kept j h k =
+            each (λ (j : ℕ). 1 ≤ j → j ≤ rows lent t → (s : ℕ) × (hasShape lent v j s ≡ true))
+            (λ h k. (st .shape, n .shapes (st .shape) .1 (st .held, (p, st .stands))))
+            (λ j ne h k. let a = living j h k in (a .0, shape-other lent t v i from (n .others) j (a .0) h ne ∙ a .1)) j h k
+        ordered : (j d : ℕ) → 1 ≤ j → j ≤ rows lent t → d < axes lent → low lent v j d ≤ℤ high lent v j d
+        ordered j d h k l =
+            each (λ (j : ℕ). 1 ≤ j → j ≤ rows lent t → low lent v j d ≤ℤ high lent v j d)
+            (λ h k. let b = n .bounds p st d l in ≤ℤ-trans (b .0) (b .1))
+            (λ j ne h k.
+              let a = low-other lent t v i from (n .others) j d h ne l in
+              let b = high-other lent t v i from (n .others) j d h ne l in
+              let c = table .ordered j d h k l in
+              omega ints) j h k
+
+    -- every settled table inside stays inside
+    pub narrowed-keeps : 0 < axes lent → (u : List ℤ) → Settled lent u → Inside lent u t → Inside lent u v
+    narrowed-keeps dims u s x =
+        record {
+          as-long = x .as-long ∙ sym (n .as-long);
+          lows = λ q d h k l. each (λ (q : ℕ). 1 ≤ q → q ≤ rows lent t → low lent v q d ≤ℤ low lent u q d)
+            (λ h k. let r = s .lows i d h (rows-of dims u t s x i k) l in
+              subst (λ (z : ℤ). low lent v i d ≤ℤ z) (r .there) (n .bounds (r .point) (stands-outside dims u t s x i (r .point) h k (r .by)) d l .0))
+            (λ q ne h k. subst⁻¹ (λ (z : ℤ). z ≤ℤ low lent u q d) (low-other lent t v i from (n .others) q d h ne l) (x .lows q d h k l)) q h (row-of q k);
+          highs = λ q d h k l. each (λ (q : ℕ). 1 ≤ q → q ≤ rows lent t → high lent u q d ≤ℤ high lent v q d)
+            (λ h k. let r = s .highs i d h (rows-of dims u t s x i k) l in
+              subst (λ (z : ℤ). z ≤ℤ high lent v i d) (r .there) (n .bounds (r .point) (stands-outside dims u t s x i (r .point) h k (r .by)) d l .1))
+            (λ q ne h k. subst⁻¹ (λ (z : ℤ). high lent u q d ≤ℤ z) (high-other lent t v i from (n .others) q d h ne l) (x .highs q d h k l)) q h (row-of q k);
+          shapes = λ q j h k. each (λ (q : ℕ). 1 ≤ q → q ≤ rows lent t → hasShape lent u q j ≡ true → hasShape lent v q j ≡ true)
+            (λ h k e.
+              let a = s .shapes i j h (rows-of dims u t s x i k) e in
+              n .shapes j .1 (x .shapes i j h k e, (a .0, still-allowed lent u t x (alive dims u t s x) i j (a .0) h k (a .1))))
+            (λ q ne h k e. shape-other lent t v i from (n .others) q j h ne ∙ x .shapes q j h k e) q h (row-of q k) }
+      where
+        row-of : (q : ℕ) → q ≤ rows lent v → q ≤ rows lent t
+        row-of q k = subst (λ (m : ℕ). q ≤ m) (rows-same lent v t (n .as-long)) k

@@ -1,28 +1,28 @@
 -- An accepted sheet keeps every bound: where no check applies, `Block` and `Table` hold (`accepted-block`, `accepted-table`), and a table
 -- of as many words that keeps `Table` is accepted again (`accepted-again`). Assumes nothing.
-use mathlib.Core.Path.{_≡_, refl, sym, ap, ap₂, _∙_, subst}
+use mathlib.Core.Path.{_≡_, refl, ap, ap₂, _∙_}
 use mathlib.Core.Logic.{⊎-elim}
 use mathlib.Core.Bool.{Bool, true, false, not, cond, _&&_, _||_}
 use mathlib.Core.List.{List}
-use Prim.Native.Nat.{ℕ, zero, suc, _-_, _*_, _/_, _^_, _≤_, _<_}
+use Prim.Native.Nat.{ℕ, zero, suc, _-_, _/_, _^_, _≤_, _<_}
 use native.Mathlib.Nat.{le-trans}
 use native.Mathlib.Omega.{arith}
-use lib.Dec.{leb, ltb, eqb}
+use lib.Dec.{ltb}
 use lib.Pow.{pow-mono}
 use lib.ListN.{length}
 use lib.IntN.{ℤ, pos}
 use lib.Signed.{_≤ℤ_, leZ}
 use borrow.Author.Tests.{eqb-true, leb-true, eq-eqb, le-leb}
-use Rattle.integers.specs.Integer.{minus, nat, eqZ, within, Within}
-use Rattle.integers.specs.Below.{_⇒_, allBelow, anyBelow, allUpTo}
+use Rattle.integers.specs.Integer.{minus, eqZ, within, Within}
+use Rattle.integers.specs.Below.{_⇒_, allBelow, anyBelow}
 use Rattle.integers.specs.Words.{word}
-use Rattle.integers.proofs.Booleans.{clash, not-false, and-true, true-and, or-true, or-false, implies-true, true-implies}
+use Rattle.integers.proofs.Booleans.{not-false, and-true, true-and, or-true, or-false, implies-true, true-implies}
 use Rattle.integers.proofs.Below.{all-at, at-all, any-at, any-true, upto-at, at-upto}
 use Rattle.integers.proofs.Ints.{ints, eqZ-eq, le-of-test, test-of-le, within-true, true-within}
 use Rattle.integers.proofs.Machine.{within-test, within-pos, within-by, from-within}
 use Rattle.integers.proofs.Ranges.{nat-from}
 use Rattle.integers.proofs.Sets.{small-set, member-ge-1}
-use Rattle.sheet.specs.Layout.{Lent, dims, axes, boxes, rules, rowLen, blockLen, shapeOf, offset, size, isOf, validBox, kind, isNonOverlap, isContainment, dimSet, rowSet, roomLow, roomHigh, namesDim, validEnds, validRule, rows, shapeSet, low, high, hasShape, validRow}
+use Rattle.sheet.specs.Layout.{Lent, dims, axes, boxes, rules, rowLen, shapeOf, offset, size, isOf, validBox, kind, isNonOverlap, isContainment, dimSet, rowSet, roomLow, roomHigh, namesDim, validEnds, validRule, rows, shapeSet, low, high, hasShape, validRow}
 use Rattle.sheet.specs.Refusal.{_when_, _else_, badHead, badCounts, badBlockLength, badTableLength, badBox, badRule, badRow, refusal}
 use Rattle.sheet.specs.Accepted.{Count, Head, Block, Rows, Boxed, Table}
 
@@ -90,8 +90,8 @@ module _ (lent : Lent) where
     where
       pick : (b : Bool)
           → cond b
-            (within (minus 1000000) (pos 1000000) (roomLow lent r d) && within (minus 1000000) (pos 1000000) (roomHigh lent r d) && leZ (roomLow lent r d) (roomHigh lent r d))
-            (eqZ (roomLow lent r d) (pos 0) && eqZ (roomHigh lent r d) (pos 0)) ≡ true
+          (within (minus 1000000) (pos 1000000) (roomLow lent r d) && within (minus 1000000) (pos 1000000) (roomHigh lent r d) && leZ (roomLow lent r d) (roomHigh lent r d))
+          (eqZ (roomLow lent r d) (pos 0) && eqZ (roomHigh lent r d) (pos 0)) ≡ true
           → Within 1000000 (roomLow lent r d) × Within 1000000 (roomHigh lent r d)
       pick true u = let a = and-true u in let b = and-true (a .0) in (within-test (b .0), within-test (b .1))
       pick false u = let a = and-true u in (is-zero 1000000 (a .0), is-zero 1000000 (a .1))
@@ -127,22 +127,26 @@ module _ (lent : Lent) where
       let set = within-true (q .0) in
       let ends : (d : ℕ) → d < axes lent → Range t i d = λ d l. range-parts t i d (all-at (range-test t i) (p .1) d l) in
       record {
-        set-from = set .0; set-upto = set .1;
+        set-from = set .0;
+        set-upto = set .1;
         boxed = λ s h.
-          let w = any-at (implies-true (upto-at (shape-test t i) (q .1) s (member-ge-1 (shapeSet lent t i) h) (small-set {n = 32} (set .1) h)) h) in
-          record { box = w .0; below = w .1; is = w .2 };
-        low-in = λ d l. ends d l .0; high-in = λ d l. ends d l .1; ordered = λ d l. ends d l .2 }
+            let w = any-at (implies-true (upto-at (shape-test t i) (q .1) s (member-ge-1 (shapeSet lent t i) h) (small-set {n = 32} (set .1) h)) h) in
+            record { box = w .0; below = w .1; is = w .2 };
+        low-in = λ d l. ends d l .0;
+        high-in = λ d l. ends d l .1;
+        ordered = λ d l. ends d l .2;
+      }
 
   row-by : (t : List ℤ) (i : ℕ) → ValidRow t i → validRow lent t i ≡ true
   unfolding validRow
   row-by t i v =
       true-and
       (true-and (true-within (v .set-from) (v .set-upto))
-        (at-upto (shape-test t i) (λ s h k. true-implies (λ e. let b = v .boxed s e in any-true (λ b. isOf lent b s) (b .box) (b .below) (b .is)))))
+      (at-upto (shape-test t i) (λ s h k. true-implies (λ e. let b = v .boxed s e in any-true (λ b. isOf lent b s) (b .box) (b .below) (b .is)))))
       (at-all (λ d l.
-        let a = from-within (v .low-in d l) in
-        let b = from-within (v .high-in d l) in
-        true-and (true-and (true-within (a .0) (a .1)) (true-within (b .0) (b .1))) (test-of-le (v .ordered d l))))
+      let a = from-within (v .low-in d l) in
+      let b = from-within (v .high-in d l) in
+      true-and (true-and (true-within (a .0) (a .1)) (true-within (b .0) (b .1))) (test-of-le (v .ordered d l))))
 
   module _ (t : List ℤ) where
     -- ---- no check applies
@@ -171,7 +175,8 @@ module _ (lent : Lent) where
           table-length = when-zero 4 (badTableLength lent t) (d .0);
           box = when-zero 5 (badBox lent) (e .0);
           rule = when-zero 6 (badRule lent t) (f .0);
-          row = when-zero 7 (badRow lent t) (f .1) }
+          row = when-zero 7 (badRow lent t) (f .1);
+        }
 
     pub accepted-by : Passed → refusal lent t ≡ 0
     unfolding refusal
@@ -186,11 +191,16 @@ module _ (lent : Lent) where
         let a = not-false (or-false {a = ltb (length (lent .block)) 3} h .1) in
         let b = and-true (not-false c) in
         record {
-          some-dims = nat-from (word (lent .block) 0) a .0; few-dims = nat-from (word (lent .block) 0) a .1;
-          some-axes = nat-from (word (lent .block) 0) a .0; few-axes = nat-from (word (lent .block) 0) a .1;
-          some-boxes = nat-from (word (lent .block) 1) (b .0) .0; few-boxes = nat-from (word (lent .block) 1) (b .0) .1;
-          few-rules = nat-from (word (lent .block) 2) (b .1) .1; long = eqb-true _ _ (not-false l);
-          counts = λ at k. head-count at k a (b .0) (b .1) }
+          some-dims = nat-from (word (lent .block) 0) a .0;
+          few-dims = nat-from (word (lent .block) 0) a .1;
+          some-axes = nat-from (word (lent .block) 0) a .0;
+          few-axes = nat-from (word (lent .block) 0) a .1;
+          some-boxes = nat-from (word (lent .block) 1) (b .0) .0;
+          few-boxes = nat-from (word (lent .block) 1) (b .0) .1;
+          few-rules = nat-from (word (lent .block) 2) (b .1) .1;
+          long = eqb-true _ _ (not-false l);
+          counts = λ at k. head-count at k a (b .0) (b .1);
+        }
       where
         head-count : (at : ℕ) → at < 3 → within (pos 1) (pos 4) (word (lent .block) 0) ≡ true → within (pos 1) (pos 128) (word (lent .block) 1) ≡ true
             → within (pos 0) (pos 32) (word (lent .block) 2) ≡ true → Count (word (lent .block) at)
@@ -215,9 +225,13 @@ module _ (lent : Lent) where
     table-by w e =
         record {
           whole = w;
-          sets-from = λ i h k. row i h k .set-from; sets-upto = λ i h k. row i h k .set-upto;
+          sets-from = λ i h k. row i h k .set-from;
+          sets-upto = λ i h k. row i h k .set-upto;
           boxed = λ i s h k. row i h k .boxed s;
-          lows = λ i d h k l. row i h k .low-in d l; highs = λ i d h k l. row i h k .high-in d l; ordered = λ i d h k l. row i h k .ordered d l }
+          lows = λ i d h k l. row i h k .low-in d l;
+          highs = λ i d h k l. row i h k .high-in d l;
+          ordered = λ i d h k l. row i h k .ordered d l;
+        }
       where
         row : (i : ℕ) → 1 ≤ i → i ≤ rows lent t → ValidRow t i
         row i h k = row-parts t i (upto-at (validRow lent t) (not-false e) i h k)
@@ -226,8 +240,13 @@ module _ (lent : Lent) where
     unfolding badRow
     rows-valid w =
         ap not (at-upto (validRow lent t) (λ i h k. row-by t i (record {
-          set-from = w .sets-from i h k; set-upto = w .sets-upto i h k; boxed = λ s e. w .boxed i s h k e;
-          low-in = λ d l. w .lows i d h k l; high-in = λ d l. w .highs i d h k l; ordered = λ d l. w .ordered i d h k l })))
+          set-from = w .sets-from i h k;
+          set-upto = w .sets-upto i h k;
+          boxed = λ s e. w .boxed i s h k e;
+          low-in = λ d l. w .lows i d h k l;
+          high-in = λ d l. w .highs i d h k l;
+          ordered = λ d l. w .ordered i d h k l;
+        })))
 
     module _ (accepted : refusal lent t ≡ 0) where
       box-parts : (b : ℕ) → b < boxes lent
@@ -261,7 +280,8 @@ module _ (lent : Lent) where
             dim-sets = λ r h. counted 1 _ (power (dims lent) 4 (accepted-head .few-dims) (omega arith)) (rule-valid r h .dim-set);
             row-sets = λ r h. counted 1 _ (power (rows lent t) 32 (accepted-rows .few-rows) (omega arith)) (rule-valid r h .row-set);
             room-lows = λ r d h l. end-bounds r d (rule-valid r h .ends d l) .0;
-            room-highs = λ r d h l. end-bounds r d (rule-valid r h .ends d l) .1 }
+            room-highs = λ r d h l. end-bounds r d (rule-valid r h .ends d l) .1;
+          }
 
       pub accepted-table : Table lent t
       accepted-table = table-by accepted-rows (passed accepted .row)
@@ -276,6 +296,11 @@ module _ (lent : Lent) where
   accepted-again t u accepted e w =
       let p = passed t accepted in
       accepted-by u (record {
-        head = p .head; counts = p .counts; block-length = p .block-length; table-length = length-by u (w .whole); box = p .box;
+        head = p .head;
+        counts = p .counts;
+        block-length = p .block-length;
+        table-length = length-by u (w .whole);
+        box = p .box;
         rule = ap (λ (n : ℕ). not (allBelow (rules lent) (validRule lent n))) (rows-same u t e) ∙ p .rule;
-        row = rows-valid u w })
+        row = rows-valid u w;
+      })

@@ -1,29 +1,28 @@
 -- MISSION DEMAND 2, first half: a fixed placement is good exactly when the catalogue's non-overlap holds of each two rows that a
 -- kind 1 rule names, and every room rule holds (`good-is-catalogue`, and `demand-2` for every placement that is not refused).
 -- Assumes nothing.
-use mathlib.Core.Path.{_≡_, refl, sym, ap, ap₂, _∙_, subst}
+use mathlib.Core.Path.{_≡_, ap, _∙_}
 use mathlib.Core.Logic.{_⊎_, inl, inr, ⊎-elim}
-use mathlib.Core.Bool.{Bool, true, false, not, _&&_, _||_}
+use mathlib.Core.Bool.{Bool, true, false, not, _&&_}
 use mathlib.Core.List.{List}
-use Prim.Native.Nat.{ℕ, suc, _≤_, _<_}
+use Prim.Native.Nat.{ℕ, _≤_, _<_}
 use native.Mathlib.Omega.{arith}
 use lib.Dec.{ltb}
 use lib.IntN.{ℤ}
 use borrow.Author.Tests.{ltb-true, lt-ltb}
-use Rattle.integers.specs.Integer.{eqZ}
-use Rattle.integers.specs.Below.{_⇒_, allBelow, anyBelow, allUpTo, anyUpTo}
+use Rattle.integers.specs.Below.{_⇒_, allBelow, allUpTo}
 use Rattle.integers.proofs.Booleans.{clash, passes, not-false, both-ways, and-true, true-and, implies-true, true-implies}
-use Rattle.integers.proofs.Below.{all-at, at-all, upto-at, at-upto, some-upto, below-or}
-use Rattle.integers.proofs.Ints.{ints, eqZ-eq}
-use Rattle.integers.proofs.Sets.{only-held, held-only}
-use Rattle.sheet.specs.Layout.{Lent, axes, boxes, rules, isOf, isNonOverlap, namesRow, rows, shapeSet, low, high, hasShape, hasOnly}
-use Rattle.sheet.specs.Allowed.{roomsHold, inRanges, pairForbids, forbidden, allowed}
-use Rattle.sheet.specs.Placement.{rowFixed, fixed, pointOf, good, boxesClear, noOverlap, noneOverlap, allContained, catalogueGood}
+use Rattle.integers.proofs.Below.{all-at, at-all, upto-at, at-upto, below-or}
+use Rattle.integers.proofs.Ints.{ints}
+use Rattle.integers.proofs.Sets.{only-held}
+use Rattle.sheet.specs.Layout.{Lent, boxes, rules, isOf, isNonOverlap, namesRow, rows, shapeSet, hasShape, hasOnly}
+use Rattle.sheet.specs.Allowed.{roomsHold, inRanges, forbidden, allowed}
+use Rattle.sheet.specs.Placement.{fixed, pointOf, good, boxesClear, noOverlap, noneOverlap, allContained, catalogueGood}
 use Rattle.sheet.specs.Refusal.{_when_, notFixed, refusal, refusalPlacement}
 use Rattle.sheet.proofs.Accepted.{when-zero, else-zero}
 use Rattle.sheet.proofs.Forbidden.{allowed-parts, allowed-by, ranges-by, Pair, shapes-by, shapes-parts, OneShape, set-by, set-parts, Forbids, forbidden-by, forbidden-parts}
-use Rattle.sheet.proofs.Fixed.{Row, still, one, only}
-use Rattle.sheet.proofs.Exchange.{Still, at-point, pair-not-clear, boxes-clear-comm}
+use Rattle.sheet.proofs.Fixed.{Row, still, only}
+use Rattle.sheet.proofs.Exchange.{at-point, pair-not-clear, boxes-clear-comm}
 
 module _ (lent : Lent) (table : List ℤ) where
   -- rule r names two rows, and these are boxes of their shapes
@@ -42,8 +41,17 @@ module _ (lent : Lent) (table : List ℤ) where
   swapped : (r i j s s' b c : ℕ) → Two r i j s s' b c → Two r j i s' s c b
   swapped r i j s s' b c w =
       record {
-        rule = w .rule; kind = w .kind; first = w .second; second = w .first; names-first = w .names-second; names-second = w .names-first;
-        shape-first = w .shape-second; shape-second = w .shape-first; box-first = w .box-second; box-second = w .box-first }
+        rule = w .rule;
+        kind = w .kind;
+        first = w .second;
+        second = w .first;
+        names-first = w .names-second;
+        names-second = w .names-first;
+        shape-first = w .shape-second;
+        shape-second = w .shape-first;
+        box-first = w .box-second;
+        box-second = w .box-first;
+      }
 
   abbrev contained : ℕ → ℕ → Bool
   contained i s = hasShape lent table i s ⇒ roomsHold lent i s (pointOf lent table i)
@@ -71,16 +79,35 @@ module _ (lent : Lent) (table : List ℤ) where
         where
           free : forbidden lent table i s (pointOf lent table i) ≡ false
           free = allowed-parts lent table i s (pointOf lent table i) (stands i s (w .first) (w .shape-first .0) (w .shape-first .1) (w .shape-first .2)) .2
+
           by : boxesClear lent table r i b j c ≡ false → Forbids lent table i s (pointOf lent table i)
           by e =
               record {
-                rule = r; other = j; rule-below = w .rule; from = w .second .from; upto = w .second .upto; kind = w .kind;
-                names = w .names-first; another = λ z. different z; names-other = w .names-second;
+                rule = r;
+                other = j;
+                rule-below = w .rule;
+                from = w .second .from;
+                upto = w .second .upto;
+                kind = w .kind;
+                names = w .names-first;
+                another = λ z. different z;
+                names-other = w .names-second;
                 set = set-by lent table r i s j (pointOf lent table i) (record {
-                  shape = s'; from = w .shape-second .0; upto = w .shape-second .1; only = only lent table all-fixed j s' (w .second) (w .shape-second .2);
+                  shape = s';
+                  from = w .shape-second .0;
+                  upto = w .shape-second .1;
+                  only = only lent table all-fixed j s' (w .second) (w .shape-second .2);
                   forbids = shapes-by lent table r i s j s' (pointOf lent table i) (record {
-                    own = b; other = c; own-below = w .box-first .0; other-below = w .box-second .0; own-is = w .box-first .1; other-is = w .box-second .1;
-                    pair = pair-not-clear lent table r i b j c (still lent table all-fixed j (w .second)) ∙ ap not e }) }) }
+                    own = b;
+                    other = c;
+                    own-below = w .box-first .0;
+                    other-below = w .box-second .0;
+                    own-is = w .box-first .1;
+                    other-is = w .box-second .1;
+                    pair = pair-not-clear lent table r i b j c (still lent table all-fixed j (w .second)) ∙ ap not e;
+                  });
+                });
+              }
             where
               different : i ≡ j → ⊥
               different z = omega arith
@@ -90,17 +117,26 @@ module _ (lent : Lent) (table : List ℤ) where
       to-catalogue =
           true-and
           (at-all (λ r hr. true-implies (λ kind.
-            at-upto (λ j. namesRow lent r j ⇒ allUpTo (rows lent table) (λ i. ltb i j && namesRow lent r i ⇒ noOverlap lent table r i j)) (λ j j1 jn. true-implies (λ nj.
-            at-upto (λ i. ltb i j && namesRow lent r i ⇒ noOverlap lent table r i j) (λ i i1 iN. true-implies (λ e. let x = and-true {a = ltb i j} e in
-            at-upto (shape-one r i j) (λ s s1 s32. true-implies (λ ti.
-            at-upto (shape-two r i j s) (λ s' t1 t32. true-implies (λ tj.
-            at-all (λ b hb. true-implies (λ ib.
-            at-all (λ c hc. true-implies (λ ic.
-            apart r i j s s' b c (ltb-true i j (x .0)) (record {
-              rule = hr; kind = kind; first = record { from = i1; upto = iN }; second = record { from = j1; upto = jn };
-              names-first = x .1; names-second = nj; shape-first = (s1, s32, ti); shape-second = (t1, t32, tj); box-first = (hb, ib); box-second = (hc, ic) }))))))))))))))))
+          at-upto (λ j. namesRow lent r j ⇒ allUpTo (rows lent table) (λ i. ltb i j && namesRow lent r i ⇒ noOverlap lent table r i j)) (λ j j1 jn. true-implies (λ nj.
+          at-upto (λ i. ltb i j && namesRow lent r i ⇒ noOverlap lent table r i j) (λ i i1 iN. true-implies (λ e. let x = and-true {a = ltb i j} e in
+          at-upto (shape-one r i j) (λ s s1 s32. true-implies (λ ti.
+          at-upto (shape-two r i j s) (λ s' t1 t32. true-implies (λ tj.
+          at-all (λ b hb. true-implies (λ ib.
+          at-all (λ c hc. true-implies (λ ic.
+          apart r i j s s' b c (ltb-true i j (x .0)) (record {
+            rule = hr;
+            kind = kind;
+            first = record { from = i1; upto = iN };
+            second = record { from = j1; upto = jn };
+            names-first = x .1;
+            names-second = nj;
+            shape-first = (s1, s32, ti);
+            shape-second = (t1, t32, tj);
+            box-first = (hb, ib);
+            box-second = (hc, ic);
+          }))))))))))))))))
           (at-upto (λ i. allUpTo 32 (contained i)) (λ i i1 iN. at-upto (contained i) (λ s s1 s32. true-implies (λ t.
-            allowed-parts lent table i s (pointOf lent table i) (stands i s (record { from = i1; upto = iN }) s1 s32 t) .1))))
+          allowed-parts lent table i s (pointOf lent table i) (stands i s (record { from = i1; upto = iN }) s1 s32 t) .1))))
 
     -- ---- the catalogue's rule and the rooms
     module _ (k : catalogueGood lent table ≡ true) where
@@ -131,22 +167,37 @@ module _ (lent : Lent) (table : List ℤ) where
         where
           r : ℕ
           r = f .rule
+
           j : ℕ
           j = f .other
+
           o : OneShape lent table r (pointOf lent table i) i s j
           o = set-parts lent table r i s j (pointOf lent table i) (f .set)
+
           q : Pair lent table r (pointOf lent table i) i s j (o .shape)
           q = shapes-parts lent table r i s j (o .shape) (pointOf lent table i) (o .forbids)
+
           other : Row lent table j
           other = record { from = f .from; upto = f .upto }
+
           two : Two r i j s (o .shape) (q .own) (q .other)
           two =
               record {
-                rule = f .rule-below; kind = f .kind; first = h; second = other; names-first = f .names; names-second = f .names-other;
-                shape-first = (l, u, t); shape-second = (o .from, o .upto, only-held (shapeSet lent table j) (o .shape) (o .only));
-                box-first = (q .own-below, q .own-is); box-second = (q .other-below, q .other-is) }
+                rule = f .rule-below;
+                kind = f .kind;
+                first = h;
+                second = other;
+                names-first = f .names;
+                names-second = f .names-other;
+                shape-first = (l, u, t);
+                shape-second = (o .from, o .upto, only-held (shapeSet lent table j) (o .shape) (o .only));
+                box-first = (q .own-below, q .own-is);
+                box-second = (q .other-below, q .other-is);
+              }
+
           contra : boxesClear lent table r i (q .own) j (q .other) ≡ true → ⊥
           contra e = clash (q .pair) (pair-not-clear lent table r i (q .own) j (q .other) (still lent table all-fixed j other) ∙ ap not e)
+
           later : (j < i) ⊎ (i ≤ j) → j ≤ i → ⊥
           later (inl less) more =
               contra (boxes-clear-comm lent table r i (q .own) j (q .other)
@@ -156,17 +207,17 @@ module _ (lent : Lent) (table : List ℤ) where
       in-ranges : (i : ℕ) → Row lent table i → inRanges lent table i (pointOf lent table i) ≡ true
       in-ranges i h =
           ranges-by lent table i (pointOf lent table i) (λ d l.
-            let e = at-point lent table i d l in
-            let q = still lent table all-fixed i h d l in
-            (omega ints, omega ints))
+          let e = at-point lent table i d l in
+          let q = still lent table all-fixed i h d l in
+          (omega ints, omega ints))
 
       from-catalogue : good lent table ≡ true
       unfolding good
       from-catalogue =
           at-upto (λ i. allUpTo 32 (allowed-point i)) (λ i i1 iN. at-upto (allowed-point i) (λ s s1 s32. true-implies (λ t.
-            let h : Row lent table i = record { from = i1; upto = iN } in
-            allowed-by lent table i s (pointOf lent table i) (in-ranges i h) (contained-point i s h s1 s32 t)
-            (λ e. free i s h s1 s32 t (forbidden-parts lent table i s (pointOf lent table i) e)))))
+          let h : Row lent table i = record { from = i1; upto = iN } in
+          allowed-by lent table i s (pointOf lent table i) (in-ranges i h) (contained-point i s h s1 s32 t)
+          (λ e. free i s h s1 s32 t (forbidden-parts lent table i s (pointOf lent table i) e)))))
 
     pub good-is-catalogue : good lent table ≡ catalogueGood lent table
     good-is-catalogue = both-ways _ _ to-catalogue from-catalogue

@@ -1,7 +1,7 @@
 -- Coordinates from the last dimension on do not matter: what is allowed at a point is allowed at every point that agrees with it
 -- in each dimension. Assumes nothing.
 use mathlib.Core.Path.{_≡_, ap, ap₂}
-use mathlib.Core.Bool.{Bool, true, not, _&&_}
+use mathlib.Core.Bool.{Bool, not, _&&_}
 use mathlib.Core.List.{List}
 use Prim.Native.Nat.{ℕ, suc, _<_}
 use lib.Dec.{eqb}
@@ -29,8 +29,8 @@ module _ (lent : Lent) (table : List ℤ) where
     unfolding boxContained
     box-agree r b =
         all-same (λ d l.
-          ap (λ (z : ℤ). namesDim lent r d ⇒ leZ (roomLow lent r d) (z +ℤ offset lent b d) && leZ (z +ℤ offset lent b d +ℤ size lent b d) (roomHigh lent r d))
-          (h d (axis lent l)))
+        ap (λ (z : ℤ). namesDim lent r d ⇒ leZ (roomLow lent r d) (z +ℤ offset lent b d) && leZ (z +ℤ offset lent b d +ℤ size lent b d) (roomHigh lent r d))
+        (h d (axis lent l)))
 
     rooms-agree : (i s : ℕ) → roomsHold lent i s p ≡ roomsHold lent i s q
     unfolding roomsHold
@@ -42,7 +42,7 @@ module _ (lent : Lent) (table : List ℤ) where
     unfolding pairForbids
     pair-agree r i b j c =
         all-same (λ d l.
-          ap (λ (z : ℤ). namesDim lent r d ⇒ within (forbidFrom lent table r i b j c d) (forbidTo lent table r i b j c d) z) (h d (axis lent l)))
+        ap (λ (z : ℤ). namesDim lent r d ⇒ within (forbidFrom lent table r i b j c d) (forbidTo lent table r i b j c d) z) (h d (axis lent l)))
 
     shapes-agree : (r i s j s' : ℕ) → shapesForbid lent table r p i s j s' ≡ shapesForbid lent table r q i s j s'
     unfolding shapesForbid

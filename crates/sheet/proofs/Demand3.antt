@@ -2,9 +2,8 @@
 -- the given one, and otherwise the settled table inside that contains every other (`demand-3`); a finding with that property is unique,
 -- whatever finds it and in whatever order of rows (`demand-3-unique`). What is left is accepted again (`narrowed-accepted`, `settled-accepted`).
 -- The proof gives crates/fixpoint its laws (`laws`). Assumes nothing.
-use mathlib.Core.Path.{_≡_, refl, sym, ap, _∙_, subst, subst⁻¹}
-use mathlib.Core.Logic.{_⊎_, inl, inr, ⊎-elim}
-use mathlib.Core.Bool.{Bool, true, false}
+use mathlib.Core.Path.{_≡_, refl, sym, _∙_, subst}
+use mathlib.Core.Bool.{true}
 use mathlib.Core.List.{List}
 use mathlib.Core.Option.{Option, none, some}
 use Prim.Native.Nat.{ℕ, zero, suc, _≤_, _<_}
@@ -17,11 +16,11 @@ use Rattle.integers.proofs.Lists.{same-eq, same-refl}
 use Rattle.fixpoint.specs.Finding.{Survives}
 use Rattle.fixpoint.specs.Laws.{Laws, Still}
 use Rattle.fixpoint.proofs.Settle.{settle-finds, settles}
-use Rattle.sheet.specs.Layout.{Lent, axes, rows, shapeSet, low, high, hasShape}
+use Rattle.sheet.specs.Layout.{Lent, axes, rows, hasShape}
 use Rattle.sheet.specs.Narrow.{Stands, Narrowed, Narrows, noPlace, narrowed, narrowOf}
 use Rattle.sheet.specs.Settle.{Settled, Inside, Settles, extent, settleOf}
 use Rattle.sheet.specs.Refusal.{refusal}
-use Rattle.sheet.specs.Accepted.{Head, Table}
+use Rattle.sheet.specs.Accepted.{Table}
 use Rattle.sheet.proofs.Accepted.{accepted-head, accepted-table, rows-same, accepted-again}
 use Rattle.sheet.proofs.Narrows.{narrow-finds}
 use Rattle.sheet.proofs.Inside.{inside-refl, inside-trans, inside-antisym, inside-falls}
@@ -77,7 +76,8 @@ module _ (lent : Lent) where
         let w = left t v m g h e in
         record {
           table = narrowed-table lent t v (suc m) (omega arith) (row-in m g h) (w .left) (w .point) (w .stands) (g .table) (living (g .table));
-          as-long = w .left .as-long ∙ g .as-long }
+          as-long = w .left .as-long ∙ g .as-long;
+        }
 
     settled-still : (t : List ℤ) → Good t → Still narrow (rows lent t₀) t → Settled lent t
     settled-still t g still =
@@ -85,7 +85,8 @@ module _ (lent : Lent) where
         record {
           lows = λ i d h k l. at i h k .lows d l;
           highs = λ i d h k l. at i h k .highs d l;
-          shapes = λ i s h k e. at i h k .shapes s .0 e .1 }
+          shapes = λ i s h k e. at i h k .shapes s .0 e .1;
+        }
       where
         each-row : (i : ℕ) → 1 ≤ i → i ≤ rows lent t → Narrowed lent t i t
         each-row (suc m) h k =
@@ -99,13 +100,14 @@ module _ (lent : Lent) where
           rfl = inside-refl lent;
           trans = λ x y. inside-trans lent x y;
           antisym = λ {s} {t} {u} g x y st su a b.
-            inside-antisym lent t u (settled-table lent dims t s st x (g .table)) (settled-table lent dims u s su y (g .table)) a b;
+              inside-antisym lent t u (settled-table lent dims t s st x (g .table)) (settled-table lent dims u s su y (g .table)) a b;
           equal = λ t u. (λ e. same-eq e, λ e. subst (λ (y : List ℤ). sameWords t y ≡ true) e (same-refl t));
           keeps = λ {i} {t} {u} h g s x. survives t u i g h s x (narrow i t) (finds t i g h);
           good = λ {i} {t} {v} h g e. good-of t v i g h e;
           shrinks = λ {i} {t} {v} h g e. inside-of t v i g h e;
           falls = λ {i} {t} {v} h g e. inside-falls lent v t (good-of t v i g h e .table) (g .table) (inside-of t v i g h e);
-          still = λ {t} g s. settled-still t g s }
+          still = λ {t} g s. settled-still t g s;
+        }
 
   -- ---- an accepted sheet
   module _ (t : List ℤ) (accepted : refusal lent t ≡ 0) where

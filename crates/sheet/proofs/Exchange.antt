@@ -1,17 +1,16 @@
 -- Two fixed rows and a pair of boxes: the pair forbids a row's origin exactly when the boxes are not clear of each other in some
 -- named dimension (`pair-not-clear`), and that is the same whichever row stands first (`exchange`). Boxes that touch are clear
 -- both ways (`touching`). Assumes nothing.
-use mathlib.Core.Path.{_≡_, sym, ap, ap₂, _∙_, subst}
-use mathlib.Core.Bool.{Bool, true, false, not, _&&_, _||_}
+use mathlib.Core.Path.{_≡_, sym, ap, ap₂, _∙_}
+use mathlib.Core.Bool.{Bool, true, false, not, _&&_}
 use mathlib.Core.List.{List}
 use Prim.Native.Nat.{ℕ, _<_}
-use native.Mathlib.Omega.{arith}
 use lib.IntN.{ℤ, pos, _+ℤ_, _-ℤ_}
 use lib.Signed.{leZ}
 use Rattle.integers.specs.Integer.{within}
-use Rattle.integers.specs.Below.{_⇒_, allBelow, anyBelow}
+use Rattle.integers.specs.Below.{_⇒_}
 use Rattle.integers.specs.Words.{word}
-use Rattle.integers.proofs.Booleans.{true-and, or-comm, or-left, or-right, implies-not}
+use Rattle.integers.proofs.Booleans.{true-and, or-comm, or-left, implies-not}
 use Rattle.integers.proofs.Below.{all-same, any-same, any-true, all-not}
 use Rattle.integers.proofs.Ints.{ints, interval}
 use Rattle.integers.proofs.Lists.{getD-listBelow}
@@ -35,8 +34,8 @@ module _ (lent : Lent) (table : List ℤ) where
   unfolding forbidFrom forbidTo clear boxStart boxEnd
   not-clear r i b j c still d h =
       ap₂ (λ (q p : ℤ). within (q +ℤ offset lent c d -ℤ offset lent b d -ℤ size lent b d +ℤ pos 1)
-        (low lent table j d +ℤ offset lent c d +ℤ size lent c d -ℤ offset lent b d -ℤ pos 1) p)
-        (sym (still d (axis lent h))) (at-point i d (axis lent h))
+      (low lent table j d +ℤ offset lent c d +ℤ size lent c d -ℤ offset lent b d -ℤ pos 1) p)
+      (sym (still d (axis lent h))) (at-point i d (axis lent h))
       ∙ interval (low lent table j d) (offset lent c d) (size lent c d) (offset lent b d) (size lent b d) (low lent table i d)
 
   pub pair-not-clear : (r i b j c : ℕ) → Still j

@@ -1,14 +1,13 @@
 -- MISSION DEMAND 2, second half: for one row and shape the least and the greatest coordinate found are those of the allowed points,
 -- and none is found exactly when no point is allowed (`least-of`, `greatest-of`). One proof serves both, over the order, and any
 -- test whose points lie in the row's ranges. Assumes nothing.
-use mathlib.Core.Path.{_≡_, refl, sym, ap, _∙_, subst, subst⁻¹}
+use mathlib.Core.Path.{_≡_, sym, subst, subst⁻¹}
 use mathlib.Core.Logic.{⊎-elim}
 use mathlib.Core.Bool.{Bool, true, false}
 use mathlib.Core.List.{List}
 use mathlib.Core.Option.{Option, none, some}
 use Prim.Native.Nat.{ℕ, _≤_, _<_}
 use lib.IntN.{ℤ, pos, _+ℤ_, _-ℤ_}
-use lib.Signed.{_≤ℤ_}
 use Rattle.integers.specs.Integer.{nat, width}
 use Rattle.integers.specs.Below.{leastBelow, greatestBelow}
 use Rattle.integers.specs.Words.{word}
@@ -42,7 +41,7 @@ greatest-picked n g =
     (greatest-view n g)
 
 module _ (lent : Lent) (table : List ℤ) (i : ℕ) (f : List ℤ → Bool) (agree : Respects lent table i f)
-         (ranged : (p : List ℤ) → f p ≡ true → inRanges lent table i p ≡ true) (d : ℕ) (hd : d < axes lent) where
+    (ranged : (p : List ℤ) → f p ≡ true → inRanges lent table i p ≡ true) (d : ℕ) (hd : d < axes lent) where
   -- the numbers of the range, counted from its low end
   abbrev from : ℤ
   from = low lent table i d
@@ -70,7 +69,7 @@ module _ (lent : Lent) (table : List ℤ) (i : ℕ) (f : List ℤ → Bool) (agr
   picked-extreme {before = before} mono (some c) (number e h) =
       let q = reached-at lent table i f d _ e in
       there (q .0) (q .1) (q .2) (λ p x.
-        subst (λ (z : ℤ). before (from +ℤ pos c) z) (counted p x) (mono c (at p) (h (at p) (below p x) (hit p x))))
+      subst (λ (z : ℤ). before (from +ℤ pos c) z) (counted p x) (mono c (at p) (h (at p) (below p x) (hit p x))))
 
   pub least-by : Least f d (leastBy lent table i f d)
   unfolding leastBy

@@ -1,11 +1,11 @@
 -- A fixed placement, row by row: each range is one number, and each set holds one shape. Assumes nothing.
 use mathlib.Core.Path.{_≡_}
-use mathlib.Core.Bool.{Bool, true, _&&_}
+use mathlib.Core.Bool.{Bool, true}
 use mathlib.Core.List.{List}
-use Prim.Native.Nat.{ℕ, _≤_, _<_}
+use Prim.Native.Nat.{ℕ, _≤_}
 use lib.IntN.{ℤ}
 use Rattle.integers.specs.Integer.{eqZ}
-use Rattle.integers.specs.Below.{allBelow, allUpTo, anyUpTo}
+use Rattle.integers.specs.Below.{allBelow, anyUpTo}
 use Rattle.integers.proofs.Booleans.{and-true}
 use Rattle.integers.proofs.Below.{all-at, upto-at, some-upto}
 use Rattle.integers.proofs.Ints.{eqZ-eq}

@@ -1,17 +1,13 @@
 -- What is allowed and what is forbidden, taken apart and put together: a point is forbidden by a rule and another row (`Forbids`),
 -- by the other row's one shape, and by a pair of boxes (`Pair`). Every other proof cites these laws and not the definitions.
 -- Assumes nothing.
-use mathlib.Core.Path.{_≡_, refl, ap, _∙_, subst}
-use mathlib.Core.Bool.{Bool, true, false, not, _&&_}
+use mathlib.Core.Path.{_≡_, ap}
+use mathlib.Core.Bool.{true, false, not, _&&_}
 use mathlib.Core.List.{List}
 use Prim.Native.Nat.{ℕ, _≤_, _<_}
-use native.Mathlib.Omega.{arith}
-use lib.Dec.{eqb}
 use lib.IntN.{ℤ}
 use lib.Signed.{_≤ℤ_}
 use borrow.Author.Tests.{eqb-false, ne-eqb}
-use Rattle.integers.specs.Integer.{within}
-use Rattle.integers.specs.Below.{_⇒_, allBelow, anyBelow}
 use Rattle.integers.specs.Words.{word}
 use Rattle.integers.proofs.Booleans.{and-true, true-and, implies-true, true-implies, not-true, fails}
 use Rattle.integers.proofs.Below.{all-at, at-all, any-at, any-true, some-upto, upto-some}
@@ -56,7 +52,7 @@ module _ (lent : Lent) (table : List ℤ) where
 
   pub pair-by : (r i b j c : ℕ) (p : List ℤ)
       → ((d : ℕ) → d < dims lent → namesDim lent r d ≡ true
-        → (forbidFrom lent table r i b j c d ≤ℤ word p d) × (word p d ≤ℤ forbidTo lent table r i b j c d))
+      → (forbidFrom lent table r i b j c d ≤ℤ word p d) × (word p d ≤ℤ forbidTo lent table r i b j c d))
       → pairForbids lent table r p i b j c ≡ true
   unfolding pairForbids
   pair-by r i b j c p h = at-all (λ d l. true-implies (λ n. true-within (h d l n .0) (h d l n .1)))
@@ -134,5 +130,14 @@ module _ (lent : Lent) (table : List ℤ) where
       let j2 = and-true (j .3) in
       let j1 = and-true (j2 .0) in
       record {
-        rule = r .0; other = j .0; rule-below = r .1; from = j .1; upto = j .2;
-        kind = r1 .0; names = r1 .1; another = eqb-false i (j .0) (not-true (j1 .0)); names-other = j1 .1; set = j2 .1 }
+        rule = r .0;
+        other = j .0;
+        rule-below = r .1;
+        from = j .1;
+        upto = j .2;
+        kind = r1 .0;
+        names = r1 .1;
+        another = eqb-false i (j .0) (not-true (j1 .0));
+        names-other = j1 .1;
+        set = j2 .1;
+      }

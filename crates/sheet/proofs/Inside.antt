@@ -3,17 +3,15 @@
 -- Assumes nothing.
 use mathlib.Core.Path.{_≡_, refl, sym, ap, _∙_, subst}
 use mathlib.Core.Logic.{_⊎_, inl, inr, ⊎-elim}
-use mathlib.Core.Bool.{Bool, true, false}
+use mathlib.Core.Bool.{true}
 use mathlib.Core.List.{List}
-use Prim.Native.Nat.{ℕ, zero, suc, _+_, _*_, _≤_, _<_}
+use Prim.Native.Nat.{ℕ, suc, _+_, _*_, _≤_, _<_}
 use native.Mathlib.Nat.{add-le-add}
 use native.Mathlib.Omega.{arith}
-use lib.ListN.{length}
 use lib.IntN.{ℤ, pos}
 use lib.Signed.{_≤ℤ_, ≤ℤ-refl}
 use Rattle.integers.specs.Integer.{nat, width}
 use Rattle.integers.specs.Below.{sumBelow}
-use Rattle.integers.specs.Bits.{holds}
 use Rattle.integers.specs.Words.{word, sameWords}
 use Rattle.integers.proofs.Booleans.{decide, both-ways}
 use Rattle.integers.proofs.Below.{sum-le, sum-lt}
@@ -22,9 +20,9 @@ use Rattle.integers.proofs.Machine.{within-between}
 use Rattle.integers.proofs.Ranges.{width-le, width-lt}
 use Rattle.integers.proofs.Sets.{set-ge-1, set-le, set-ext}
 use Rattle.integers.proofs.Lists.{same-eq, same-not}
-use Rattle.sheet.specs.Layout.{Lent, axes, rowLen, rowAt, rows, shapeSet, low, high, hasShape}
+use Rattle.sheet.specs.Layout.{Lent, axes, rowLen, rows, shapeSet, low, high, hasShape}
 use Rattle.sheet.specs.Settle.{Inside, extent}
-use Rattle.sheet.specs.Accepted.{Rows, Table}
+use Rattle.sheet.specs.Accepted.{Table}
 use Rattle.sheet.proofs.Accepted.{rows-same}
 use Rattle.sheet.proofs.Rows.{WordOf, a-set, a-low, a-high, word-of, rows-ext}
 
@@ -39,12 +37,13 @@ module _ (lent : Lent) where
         as-long = x .as-long ∙ y .as-long;
         lows = λ i d h k l. ≤ℤ-trans (y .lows i d h k l) (x .lows i d h (n i k) l);
         highs = λ i d h k l. ≤ℤ-trans (x .highs i d h (n i k) l) (y .highs i d h k l);
-        shapes = λ i s h k e. y .shapes i s h k (x .shapes i s h (n i k) e) }
+        shapes = λ i s h k e. y .shapes i s h k (x .shapes i s h (n i k) e);
+      }
 
   -- ---- what an inner table keeps
   module _ (u t : List ℤ) (table : Table lent t) (x : Inside lent u t)
-           (alive : (i : ℕ) → 1 ≤ i → i ≤ rows lent t → (s : ℕ) × (hasShape lent u i s ≡ true))
-           (ordered : (i d : ℕ) → 1 ≤ i → i ≤ rows lent t → d < axes lent → low lent u i d ≤ℤ high lent u i d) where
+      (alive : (i : ℕ) → 1 ≤ i → i ≤ rows lent t → (s : ℕ) × (hasShape lent u i s ≡ true))
+      (ordered : (i d : ℕ) → 1 ≤ i → i ≤ rows lent t → d < axes lent → low lent u i d ≤ℤ high lent u i d) where
     row-of : (i : ℕ) → i ≤ rows lent u → i ≤ rows lent t
     row-of i k = subst (λ (n : ℕ). i ≤ n) (rows-same lent u t (x .as-long)) k
 
@@ -66,17 +65,19 @@ module _ (lent : Lent) where
           whole = record {
             long = x .as-long ∙ table .whole .long ∙ ap (λ (n : ℕ). n * rowLen lent) (sym (rows-same lent u t (x .as-long)));
             some-rows = subst (λ (n : ℕ). 1 ≤ n) (sym (rows-same lent u t (x .as-long))) (table .whole .some-rows);
-            few-rows = subst (λ (n : ℕ). n ≤ 32) (sym (rows-same lent u t (x .as-long))) (table .whole .few-rows) };
+            few-rows = subst (λ (n : ℕ). n ≤ 32) (sym (rows-same lent u t (x .as-long))) (table .whole .few-rows);
+          };
           sets-from = λ i h k. set-from i h (row-of i k);
           sets-upto = λ i h k. set-upto i h (row-of i k);
           boxed = λ i s h k e. table .boxed i s h (row-of i k) (x .shapes i s h (row-of i k) e);
           lows = λ i d h k l.
-            within-between (table .lows i d h (row-of i k) l) (table .highs i d h (row-of i k) l) (x .lows i d h (row-of i k) l)
-            (≤ℤ-trans (ordered i d h (row-of i k) l) (x .highs i d h (row-of i k) l));
+              within-between (table .lows i d h (row-of i k) l) (table .highs i d h (row-of i k) l) (x .lows i d h (row-of i k) l)
+              (≤ℤ-trans (ordered i d h (row-of i k) l) (x .highs i d h (row-of i k) l));
           highs = λ i d h k l.
-            within-between (table .lows i d h (row-of i k) l) (table .highs i d h (row-of i k) l)
-            (≤ℤ-trans (x .lows i d h (row-of i k) l) (ordered i d h (row-of i k) l)) (x .highs i d h (row-of i k) l);
-          ordered = λ i d h k l. ordered i d h (row-of i k) l }
+              within-between (table .lows i d h (row-of i k) l) (table .highs i d h (row-of i k) l)
+              (≤ℤ-trans (x .lows i d h (row-of i k) l) (ordered i d h (row-of i k) l)) (x .highs i d h (row-of i k) l);
+          ordered = λ i d h k l. ordered i d h (row-of i k) l;
+        }
 
   -- ---- tables that lie inside each other are equal
   pub inside-antisym : (t u : List ℤ) → Table lent t → Table lent u → Inside lent t u → Inside lent u t → t ≡ u
@@ -85,9 +86,9 @@ module _ (lent : Lent) where
       let n : (m : ℕ) → m < rows lent t → m < rows lent u = λ m k. subst (λ (n : ℕ). m < n) (rows-same lent t u (x .as-long)) k in
       rows-ext lent t u (kt .whole) (x .as-long)
       (λ m k.
-        let a = kt .sets-from (suc m) (omega arith) k in
-        let b = ku .sets-from (suc m) (omega arith) (n m k) in
-        set-ext (omega ints) (omega ints) (λ s. both-ways _ _ (x .shapes (suc m) s (omega arith) (n m k)) (y .shapes (suc m) s (omega arith) k)))
+      let a = kt .sets-from (suc m) (omega arith) k in
+      let b = ku .sets-from (suc m) (omega arith) (n m k) in
+      set-ext (omega ints) (omega ints) (λ s. both-ways _ _ (x .shapes (suc m) s (omega arith) (n m k)) (y .shapes (suc m) s (omega arith) k)))
       (λ m d k l. ≤ℤ-antisym (y .lows (suc m) d (omega arith) k l) (x .lows (suc m) d (omega arith) (n m k) l))
       (λ m d k l. ≤ℤ-antisym (x .highs (suc m) d (omega arith) (n m k) l) (y .highs (suc m) d (omega arith) k l))
 
@@ -118,8 +119,12 @@ module _ (lent : Lent) where
     by-range : (m d : ℕ) → m < rows lent t → d < axes lent
         → (low lent t (suc m) d ≡ low lent u (suc m) d → high lent t (suc m) d ≡ high lent u (suc m) d → ⊥) → weight u m < weight t m
     by-range m d h l ne =
-        omega (arith, sets m h, sum-lt (widths m h) d l
-          (width-lt (kt .ordered (suc m) d (omega arith) h l) (x .lows (suc m) d (omega arith) h l) (x .highs (suc m) d (omega arith) h l) ne))
+        omega (
+          arith,
+          sets m h,
+          sum-lt (widths m h) d l
+              (width-lt (kt .ordered (suc m) d (omega arith) h l) (x .lows (suc m) d (omega arith) h l) (x .highs (suc m) d (omega arith) h l) ne),
+        )
 
     moved : (k : ℕ) → WordOf lent (rows lent t) k → (word u k ≡ word t k → ⊥) → (m : ℕ) × (m < rows lent t) × (weight u m < weight t m)
     unfolding shapeSet low high
@@ -136,7 +141,7 @@ module _ (lent : Lent) where
     inside-falls =
         ⊎-elim (λ e. inl (same-eq e))
         (λ e.
-          let k = same-not u t (x .as-long) e in
-          let m = moved (k .0) (word-of lent t (k .0) (kt .whole) (omega (arith, k .1, x .as-long))) (k .2) in
-          inr (extent-less (m .0) (m .1) (m .2)))
+        let k = same-not u t (x .as-long) e in
+        let m = moved (k .0) (word-of lent t (k .0) (kt .whole) (omega (arith, k .1, x .as-long))) (k .2) in
+        inr (extent-less (m .0) (m .1) (m .2)))
         (decide (sameWords u t))

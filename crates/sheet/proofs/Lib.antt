@@ -12,4 +12,4 @@ pub mod Narrows
 pub mod Inside
 pub mod Steps
 pub mod Demand3
-pub mod Marked
+pub mod GoodSettled

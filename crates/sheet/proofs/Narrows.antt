@@ -1,17 +1,17 @@
 -- Narrowing one row of an accepted table finds what document 01 asks (`narrow-finds`): 'no place' exactly when no point is allowed;
 -- otherwise the other rows keep their words, each end is reached and bounds all allowed points, and a shape stays exactly when it
 -- has a point. Assumes nothing.
-use mathlib.Core.Path.{_≡_, refl, sym, ap, _∙_, subst, subst⁻¹}
-use mathlib.Core.Logic.{_⊎_, inl, inr, ⊎-elim}
+use mathlib.Core.Path.{_≡_, refl, sym, ap, _∙_, subst⁻¹}
+use mathlib.Core.Logic.{⊎-elim}
 use mathlib.Core.Bool.{Bool, true, false, cond, _&&_}
 use mathlib.Core.List.{List, _∷_}
 use mathlib.Core.Option.{Option, none, some}
-use Prim.Native.Nat.{ℕ, zero, suc, _+_, _*_, _≤_, _<_}
+use Prim.Native.Nat.{ℕ, suc, _+_, _*_, _≤_, _<_}
 use native.Mathlib.Omega.{arith}
 use lib.ListN.{length}
 use lib.IntN.{ℤ, pos}
 use lib.Signed.{_≤ℤ_}
-use Rattle.integers.specs.Below.{anyUpTo, valueOr}
+use Rattle.integers.specs.Below.{valueOr}
 use Rattle.integers.specs.Bits.{holds, setOf}
 use Rattle.integers.specs.Words.{word, pairsBelow, replaced}
 use Rattle.integers.proofs.Booleans.{clash, decide, and-true, true-and}
@@ -20,7 +20,7 @@ use Rattle.integers.proofs.Sets.{member-ge-1, small-set, holds-setOf, setOf-hol
 use Rattle.integers.proofs.Lists.{length-pairsBelow, pairsBelow-first, pairsBelow-second, length-replaced, replaced-before, replaced-in, replaced-after}
 use Rattle.sheet.specs.Layout.{Lent, axes, rowLen, rowAt, rows, shapeSet, low, high, hasShape}
 use Rattle.sheet.specs.Allowed.{inRanges, allowed}
-use Rattle.sheet.specs.Bounds.{Extreme, nowhere, there, somePoint, leastBy, greatestBy}
+use Rattle.sheet.specs.Bounds.{Extreme, nowhere, there, somePoint}
 use Rattle.sheet.specs.Narrow.{Stands, Reached, Narrowed, Narrows, noPlace, narrowed, rowAllowed, keepsShape, narrowLow, narrowHigh, narrowRow, narrowOf}
 use Rattle.sheet.specs.Accepted.{Table}
 use Rattle.sheet.proofs.Forbidden.{allowed-parts}
@@ -151,14 +151,18 @@ module _ (lent : Lent) (t : List ℤ) (table : Table lent t) (i : ℕ) (from : 1
   narrowed-after p st =
       record {
         as-long = length-replaced t (rowAt lent i) (narrowRow lent t i) fits;
-        others = λ at. (λ h. replaced-before t (rowAt lent i) (narrowRow lent t i) fits at h,
-          λ h. replaced-after t (rowAt lent i) (narrowRow lent t i) fits at (omega (arith, row-length)));
+        others = λ at. (
+          λ h. replaced-before t (rowAt lent i) (narrowRow lent t i) fits at h,
+          λ h. replaced-after t (rowAt lent i) (narrowRow lent t i) fits at (omega (arith, row-length)),
+        );
         lows = λ d h. subst⁻¹ (λ (z : ℤ). Reached lent t i d z) (new-low d h) (low-found p st d h .0);
         highs = λ d h. subst⁻¹ (λ (z : ℤ). Reached lent t i d z) (new-high d h) (high-found p st d h .0);
-        bounds = λ q w d h.
-          (subst⁻¹ (λ (z : ℤ). z ≤ℤ word q d) (new-low d h) (low-found p st d h .1 q w),
-           subst⁻¹ (λ (z : ℤ). word q d ≤ℤ z) (new-high d h) (high-found p st d h .1 q w));
-        shapes = λ s. (λ e. shape-stays s e, λ w. stays-shape s w) }
+        bounds = λ q w d h. (
+          subst⁻¹ (λ (z : ℤ). z ≤ℤ word q d) (new-low d h) (low-found p st d h .1 q w),
+          subst⁻¹ (λ (z : ℤ). word q d ≤ℤ z) (new-high d h) (high-found p st d h .1 q w),
+        );
+        shapes = λ s. (λ e. shape-stays s e, λ w. stays-shape s w);
+      }
 
   -- NARROWING: what the definition finds is what must be found
   pub narrow-finds : Narrows lent t i (narrowOf lent t i)
@@ -170,6 +174,7 @@ module _ (lent : Lent) (t : List ℤ) (table : Table lent t) (i : ℕ) (from : 1
           let q = found lent t i (rowAllowed lent t i) e in
           let st = row-allowed-parts (q .0) (q .1) in
           subst⁻¹ (λ (x : Bool). Narrows lent t i (cond x (some after) none)) e (narrowed (q .0) st (narrowed-after (q .0) st))
+
       no-point : somePoint lent t i (rowAllowed lent t i) ≡ false → Narrows lent t i (cond (somePoint lent t i (rowAllowed lent t i)) (some after) none)
       no-point e =
           subst⁻¹ (λ (x : Bool). Narrows lent t i (cond x (some after) none)) e

@@ -1,16 +1,15 @@
 -- Trying every point of a row's ranges finds exactly the points that pass a test: `somePoint` and `reaches` against statements about
 -- any point, for a test that does not look past the last dimension. Assumes nothing.
-use mathlib.Core.Path.{_≡_, refl, sym, ap, ap₂, _∙_, subst}
-use mathlib.Core.Logic.{_⊎_, inl, inr, ⊎-elim}
-use mathlib.Core.Bool.{Bool, true, false, _&&_}
+use mathlib.Core.Path.{_≡_, sym, ap, ap₂, _∙_}
+use mathlib.Core.Logic.{⊎-elim}
+use mathlib.Core.Bool.{Bool, true, _&&_}
 use mathlib.Core.List.{List, [], _∷_}
-use Prim.Native.Nat.{ℕ, zero, suc, _+_, _≤_, _<_}
+use Prim.Native.Nat.{ℕ, zero, suc, _+_, _<_}
 use native.Mathlib.Nat.{add-zero, suc-add, add-suc, not-suc-le-zero}
 use native.Mathlib.Omega.{arith}
 use lib.IntN.{ℤ, pos, _+ℤ_, _-ℤ_}
 use lib.Signed.{_≤ℤ_}
 use Rattle.integers.specs.Integer.{nat, eqZ, width}
-use Rattle.integers.specs.Below.{anyBelow}
 use Rattle.integers.specs.Words.{word}
 use Rattle.integers.proofs.Booleans.{and-true, true-and}
 use Rattle.integers.proofs.Below.{any-at, any-true, last-or}

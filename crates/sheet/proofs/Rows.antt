@@ -2,14 +2,12 @@
 -- (`word-of`), so that tables with the same
 -- sets and ends are equal (`rows-ext`), and a row keeps its words where only another row's are written (`set-other`, `low-other`, `high-other`).
 -- Assumes nothing.
-use mathlib.Core.Path.{_≡_, refl, sym, ap, _∙_, subst}
-use mathlib.Core.Logic.{_⊎_, inl, inr, ⊎-elim}
-use mathlib.Core.Bool.{Bool, true, false}
+use mathlib.Core.Path.{_≡_, sym, ap, _∙_}
+use mathlib.Core.Logic.{⊎-elim}
 use mathlib.Core.List.{List}
-use Prim.Native.Nat.{ℕ, zero, suc, _+_, _-_, _*_, _/_, _%_, _≤_, _<_}
+use Prim.Native.Nat.{ℕ, zero, suc, _+_, _*_, _/_, _%_, _≤_, _<_}
 use native.Mathlib.Nat.{not-suc-le-zero, div-add-mod', mod-lt, div-lt-iff-lt-mul}
 use native.Mathlib.Omega.{arith}
-use lib.Dec.{eqb}
 use lib.ListN.{length}
 use lib.IntN.{ℤ}
 use Rattle.integers.specs.Bits.{holds}
@@ -34,7 +32,7 @@ module _ (lent : Lent) where
 
   -- ---- two tables that differ in the words of row i alone
   module _ (t u : List ℤ) (i : ℕ) (from : 1 ≤ i)
-           (others : (at : ℕ) → (at < rowAt lent i → word u at ≡ word t at) × (rowAt lent i + rowLen lent ≤ at → word u at ≡ word t at)) where
+      (others : (at : ℕ) → (at < rowAt lent i → word u at ≡ word t at) × (rowAt lent i + rowLen lent ≤ at → word u at ≡ word t at)) where
     other-word : (q e : ℕ) → 1 ≤ q → (q ≡ i → ⊥) → e < rowLen lent → word u (rowAt lent q + e) ≡ word t (rowAt lent q + e)
     other-word q e h ne l =
         ⊎-elim

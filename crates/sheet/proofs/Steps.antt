@@ -1,19 +1,16 @@
 -- What a narrowed row means for settled tables, from the statement `Narrowed` alone: the table left lies inside the one before
 -- (`narrowed-inside`), keeps `Table` (`narrowed-table`), and every settled table inside the one before lies inside it (`narrowed-keeps`).
 -- Assumes nothing.
-use mathlib.Core.Path.{_≡_, refl, sym, ap, ap₂, _∙_, subst, subst⁻¹}
-use mathlib.Core.Logic.{_⊎_, inl, inr, ⊎-elim}
-use mathlib.Core.Bool.{Bool, true, false}
+use mathlib.Core.Path.{_≡_, sym, _∙_, subst, subst⁻¹}
+use mathlib.Core.Logic.{⊎-elim}
+use mathlib.Core.Bool.{true}
 use mathlib.Core.List.{List}
-use Prim.Native.Nat.{ℕ, suc, _≤_, _<_}
-use lib.ListN.{length}
-use lib.IntN.{ℤ, pos}
+use Prim.Native.Nat.{ℕ, _≤_, _<_}
+use lib.IntN.{ℤ}
 use lib.Signed.{_≤ℤ_, ≤ℤ-refl}
-use Rattle.integers.specs.Words.{word}
 use Rattle.integers.proofs.Below.{same-or}
 use Rattle.integers.proofs.Ints.{ints, ≤ℤ-trans}
 use Rattle.sheet.specs.Layout.{Lent, axes, rows, low, high, hasShape}
-use Rattle.sheet.specs.Allowed.{allowed}
 use Rattle.sheet.specs.Narrow.{Stands, Reached, Narrowed}
 use Rattle.sheet.specs.Settle.{Settled, Inside}
 use Rattle.sheet.specs.Accepted.{Table}
@@ -36,8 +33,10 @@ module _ (lent : Lent) where
     pub stands-outside : (i : ℕ) (p : List ℤ) → 1 ≤ i → i ≤ rows lent t → Stands lent u i p → Stands lent t i p
     stands-outside i p h k w =
         record {
-          shape = w .shape; held = x .shapes i (w .shape) h k (w .held);
-          stands = still-allowed lent u t x alive i (w .shape) p h k (w .stands) }
+          shape = w .shape;
+          held = x .shapes i (w .shape) h k (w .held);
+          stands = still-allowed lent u t x alive i (w .shape) p h k (w .stands);
+        }
 
     pub settled-table : Table lent t → Table lent u
     settled-table table = inside-table lent u t table x alive ordered
@@ -65,14 +64,15 @@ module _ (lent : Lent) where
         record {
           as-long = n .as-long;
           lows = λ q d h k l. each (λ (q : ℕ). 1 ≤ q → low lent t q d ≤ℤ low lent v q d)
-            (λ h. reached-in d _ l (n .lows d l) .0)
-            (λ q ne h. subst⁻¹ (λ (z : ℤ). low lent t q d ≤ℤ z) (low-other lent t v i from (n .others) q d h ne l) (≤ℤ-refl _)) q h;
+              (λ h. reached-in d _ l (n .lows d l) .0)
+              (λ q ne h. subst⁻¹ (λ (z : ℤ). low lent t q d ≤ℤ z) (low-other lent t v i from (n .others) q d h ne l) (≤ℤ-refl _)) q h;
           highs = λ q d h k l. each (λ (q : ℕ). 1 ≤ q → high lent v q d ≤ℤ high lent t q d)
-            (λ h. reached-in d _ l (n .highs d l) .1)
-            (λ q ne h. subst⁻¹ (λ (z : ℤ). z ≤ℤ high lent t q d) (high-other lent t v i from (n .others) q d h ne l) (≤ℤ-refl _)) q h;
+              (λ h. reached-in d _ l (n .highs d l) .1)
+              (λ q ne h. subst⁻¹ (λ (z : ℤ). z ≤ℤ high lent t q d) (high-other lent t v i from (n .others) q d h ne l) (≤ℤ-refl _)) q h;
           shapes = λ q s h k. each (λ (q : ℕ). 1 ≤ q → hasShape lent v q s ≡ true → hasShape lent t q s ≡ true)
-            (λ h e. n .shapes s .0 e .0)
-            (λ q ne h e. sym (shape-other lent t v i from (n .others) q s h ne) ∙ e) q h }
+              (λ h e. n .shapes s .0 e .0)
+              (λ q ne h e. sym (shape-other lent t v i from (n .others) q s h ne) ∙ e) q h;
+        }
 
     pub narrowed-table : (p : List ℤ) → Stands lent t i p → (table : Table lent t) → ((j : ℕ) → 1 ≤ j → j ≤ rows lent t → (s : ℕ) × (hasShape lent t j s ≡ true)) → Table lent v
     narrowed-table p st table living = inside-table lent v t table narrowed-inside kept ordered
@@ -82,15 +82,16 @@ module _ (lent : Lent) where
             each (λ (j : ℕ). 1 ≤ j → j ≤ rows lent t → (s : ℕ) × (hasShape lent v j s ≡ true))
             (λ h k. (st .shape, n .shapes (st .shape) .1 (st .held, (p, st .stands))))
             (λ j ne h k. let a = living j h k in (a .0, shape-other lent t v i from (n .others) j (a .0) h ne ∙ a .1)) j h k
+
         ordered : (j d : ℕ) → 1 ≤ j → j ≤ rows lent t → d < axes lent → low lent v j d ≤ℤ high lent v j d
         ordered j d h k l =
             each (λ (j : ℕ). 1 ≤ j → j ≤ rows lent t → low lent v j d ≤ℤ high lent v j d)
             (λ h k. let b = n .bounds p st d l in ≤ℤ-trans (b .0) (b .1))
             (λ j ne h k.
-              let a = low-other lent t v i from (n .others) j d h ne l in
-              let b = high-other lent t v i from (n .others) j d h ne l in
-              let c = table .ordered j d h k l in
-              omega ints) j h k
+            let a = low-other lent t v i from (n .others) j d h ne l in
+            let b = high-other lent t v i from (n .others) j d h ne l in
+            let c = table .ordered j d h k l in
+            omega ints) j h k
 
     -- every settled table inside stays inside
     pub narrowed-keeps : 0 < axes lent → (u : List ℤ) → Settled lent u → Inside lent u t → Inside lent u v
@@ -98,18 +99,19 @@ module _ (lent : Lent) where
         record {
           as-long = x .as-long ∙ sym (n .as-long);
           lows = λ q d h k l. each (λ (q : ℕ). 1 ≤ q → q ≤ rows lent t → low lent v q d ≤ℤ low lent u q d)
-            (λ h k. let r = s .lows i d h (rows-of dims u t s x i k) l in
+              (λ h k. let r = s .lows i d h (rows-of dims u t s x i k) l in
               subst (λ (z : ℤ). low lent v i d ≤ℤ z) (r .there) (n .bounds (r .point) (stands-outside dims u t s x i (r .point) h k (r .by)) d l .0))
-            (λ q ne h k. subst⁻¹ (λ (z : ℤ). z ≤ℤ low lent u q d) (low-other lent t v i from (n .others) q d h ne l) (x .lows q d h k l)) q h (row-of q k);
+              (λ q ne h k. subst⁻¹ (λ (z : ℤ). z ≤ℤ low lent u q d) (low-other lent t v i from (n .others) q d h ne l) (x .lows q d h k l)) q h (row-of q k);
           highs = λ q d h k l. each (λ (q : ℕ). 1 ≤ q → q ≤ rows lent t → high lent u q d ≤ℤ high lent v q d)
-            (λ h k. let r = s .highs i d h (rows-of dims u t s x i k) l in
+              (λ h k. let r = s .highs i d h (rows-of dims u t s x i k) l in
               subst (λ (z : ℤ). z ≤ℤ high lent v i d) (r .there) (n .bounds (r .point) (stands-outside dims u t s x i (r .point) h k (r .by)) d l .1))
-            (λ q ne h k. subst⁻¹ (λ (z : ℤ). high lent u q d ≤ℤ z) (high-other lent t v i from (n .others) q d h ne l) (x .highs q d h k l)) q h (row-of q k);
+              (λ q ne h k. subst⁻¹ (λ (z : ℤ). high lent u q d ≤ℤ z) (high-other lent t v i from (n .others) q d h ne l) (x .highs q d h k l)) q h (row-of q k);
           shapes = λ q j h k. each (λ (q : ℕ). 1 ≤ q → q ≤ rows lent t → hasShape lent u q j ≡ true → hasShape lent v q j ≡ true)
-            (λ h k e.
+              (λ h k e.
               let a = s .shapes i j h (rows-of dims u t s x i k) e in
               n .shapes j .1 (x .shapes i j h k e, (a .0, still-allowed lent u t x (alive dims u t s x) i j (a .0) h k (a .1))))
-            (λ q ne h k e. shape-other lent t v i from (n .others) q j h ne ∙ x .shapes q j h k e) q h (row-of q k) }
+              (λ q ne h k e. shape-other lent t v i from (n .others) q j h ne ∙ x .shapes q j h k e) q h (row-of q k);
+        }
       where
         row-of : (q : ℕ) → q ≤ rows lent v → q ≤ rows lent t
         row-of q k = subst (λ (m : ℕ). q ≤ m) (rows-same lent v t (n .as-long)) k

@@ -19,14 +19,14 @@ module _ (lent : Lent) where
   unfoldable pub boxContained : ℕ → ℕ → List ℤ → Bool
   boxContained r b p =
       allBelow (dims lent) (λ d. namesDim lent r d ⇒
-        leZ (roomLow lent r d) (word p d +ℤ offset lent b d)
-        && leZ (word p d +ℤ offset lent b d +ℤ size lent b d) (roomHigh lent r d))
+      leZ (roomLow lent r d) (word p d +ℤ offset lent b d)
+      && leZ (word p d +ℤ offset lent b d +ℤ size lent b d) (roomHigh lent r d))
 
   -- every box of shape s, for every room rule that names row i
   unfoldable pub roomsHold : ℕ → ℕ → List ℤ → Bool
   roomsHold i s p =
       allBelow (rules lent) (λ r. isContainment lent r && namesRow lent r i ⇒
-        allBelow (boxes lent) (λ b. isOf lent b s ⇒ boxContained r b p))
+      allBelow (boxes lent) (λ b. isOf lent b s ⇒ boxContained r b p))
 
   module _ (table : List ℤ) where
     unfoldable pub inRanges : ℕ → List ℤ → Bool

@@ -154,9 +154,9 @@ module _ (lent : Lent) where
         within (pos 1) (pos (2 ^ 32 - 1)) (shapeSet i)
         && allUpTo 32 (λ s. hasShape i s ⇒ anyBelow boxes (λ b. isOf b s))
         && allBelow axes (λ d.
-          within (minus 1000000) (pos 1000000) (low i d)
-          && within (minus 1000000) (pos 1000000) (high i d)
-          && leZ (low i d) (high i d))
+        within (minus 1000000) (pos 1000000) (low i d)
+        && within (minus 1000000) (pos 1000000) (high i d)
+        && leZ (low i d) (high i d))
 
 -- one name that opens every definition above: `unfolding layout`
 unfoldable pub layout : Unit {0}

@@ -8,4 +8,6 @@ pub mod Refusal
 pub mod Accepted
 pub mod Answer
 pub mod Text
+pub mod Computing
 pub mod Positions
+pub mod TextPositions

@@ -50,14 +50,14 @@ module _ (lent : Lent) (table : List ℤ) where
   unfoldable pub noOverlap : ℕ → ℕ → ℕ → Bool
   noOverlap r i j =
       allUpTo 32 (λ s. hasShape lent table i s ⇒ allUpTo 32 (λ s'. hasShape lent table j s' ⇒
-        allBelow (boxes lent) (λ b. isOf lent b s ⇒ allBelow (boxes lent) (λ c. isOf lent c s' ⇒ boxesClear r i b j c))))
+      allBelow (boxes lent) (λ b. isOf lent b s ⇒ allBelow (boxes lent) (λ c. isOf lent c s' ⇒ boxesClear r i b j c))))
 
   -- each two rows that a kind 1 rule names
   unfoldable pub noneOverlap : Bool
   noneOverlap =
       allBelow (rules lent) (λ r. isNonOverlap lent r ⇒
-        allUpTo (rows lent table) (λ j. namesRow lent r j ⇒
-          allUpTo (rows lent table) (λ i. ltb i j && namesRow lent r i ⇒ noOverlap r i j)))
+      allUpTo (rows lent table) (λ j. namesRow lent r j ⇒
+      allUpTo (rows lent table) (λ i. ltb i j && namesRow lent r i ⇒ noOverlap r i j)))
 
   -- every room rule
   unfoldable pub allContained : Bool

@@ -1,13 +1,14 @@
 -- Document 01's marked positions, in its order, and two more: one that a single pass over the rows gets wrong, and one that
--- 'a row with several shapes forbids too' gets wrong. proofs/Marked.antt shows that every case passes. Assumes nothing.
+-- 'a row with several shapes forbids too' gets wrong; and the theorem that every case passes. Assumes nothing.
 use mathlib.Core.Bool.{Bool, true, false, not, _&&_}
 use mathlib.Core.List.{List, [], _∷_, _++_, map}
 use mathlib.Core.Option.{Option, none, some}
 use Prim.Native.Nat.{ℕ, suc}
-use lib.Dec.{eqb}
+use lib.Dec.{T, eqb}
 use lib.IntN.{ℤ, pos}
 use Rattle.integers.specs.Integer.{minus, eqZ}
 use Rattle.integers.specs.Words.{sameWords}
+use Rattle.sheet.specs.Computing.{computing}
 use Rattle.sheet.specs.Layout.{Lent, lentOf}
 use Rattle.sheet.specs.Allowed.{forbidFrom, forbidTo}
 use Rattle.sheet.specs.Placement.{good, catalogueGood}
@@ -137,13 +138,13 @@ positions =
     ∷ case ab (abRows (pos 0) (pos 4) (minus 10) (pos 10)) (forbids 2 1 1 0 (pos 3) (pos 2))
     -- A at 0, B in −1..2 with sizes 2 (shape 1) or 1 (shape 2): only shape 2 remains, at −1
     ∷ case (line (2 ∷ 1 ∷ 3 ∷ []) 3 3) (row 4 (pos 0) (pos 0) ++ row 3 (minus 1) (pos 2))
-      (narrows 2 (some (row 4 (pos 0) (pos 0) ++ row 2 (minus 1) (minus 1))))
+    (narrows 2 (some (row 4 (pos 0) (pos 0) ++ row 2 (minus 1) (minus 1))))
     -- two rows of size 2 in a room 0 to 3, range 0..1 each: no layout; room 0 to 4, range 0..2 each: settled as given
     ∷ case (room 3 3) (row 1 (pos 0) (pos 1) ++ row 1 (pos 0) (pos 1)) (settles none)
     ∷ case (room 3 4) (row 1 (pos 0) (pos 2) ++ row 1 (pos 0) (pos 2)) (settles (some (row 1 (pos 0) (pos 2) ++ row 1 (pos 0) (pos 2))))
     -- three rows of size 2 in a room 0 to 5, range 0..3: settled as given, though no layout exists
     ∷ case (room 7 5) (row 1 (pos 0) (pos 3) ++ row 1 (pos 0) (pos 3) ++ row 1 (pos 0) (pos 3))
-      (settles (some (row 1 (pos 0) (pos 3) ++ row 1 (pos 0) (pos 3) ++ row 1 (pos 0) (pos 3))))
+    (settles (some (row 1 (pos 0) (pos 3) ++ row 1 (pos 0) (pos 3) ++ row 1 (pos 0) (pos 3))))
     -- the catalogue's example
     ∷ case catalogue (placed 4 1) (isGood true)
     ∷ case catalogue (placed 3 1) (isGood false)
@@ -152,12 +153,12 @@ positions =
     ∷ case textSheet (row2 1 0 0 0 0 ++ row2 1 0 3 0 3) (settles (some (row2 1 0 0 0 0 ++ row2 1 2 2 0 0)))
     -- one pass over the rows leaves row 1 at 2..4: row 2 moves after it
     ∷ case (line (2 ∷ []) 1 7) (row 1 (pos 2) (pos 4) ++ row 1 (pos 0) (pos 2) ++ row 1 (pos 0) (pos 0))
-      (settles (some (row 1 (pos 4) (pos 4) ++ row 1 (pos 2) (pos 2) ++ row 1 (pos 0) (pos 0))))
+    (settles (some (row 1 (pos 4) (pos 4) ++ row 1 (pos 2) (pos 2) ++ row 1 (pos 0) (pos 0))))
     -- A at 0 with sizes 3 or 4 forbids nothing: B of size 2 in −1..5 has least −1
     ∷ case (line (3 ∷ 4 ∷ 2 ∷ []) 3 3) (row 3 (pos 0) (pos 0) ++ row 4 (minus 1) (pos 5)) (hasLeast 2 3 (some (minus 1)))
     ∷ []
 
--- one name that opens every definition above: `unfolding marked`
-unfoldable pub marked : Unit {0}
-unfolding sameTable sameNumber sameTruth answered passes allPass words row row2 boxesFrom line room ab abRows textSheet catalogue placed positions
-marked = tt
+-- THE MARKED POSITIONS: the checker computes that every case passes
+pub positions-pass : T (allPass positions)
+unfolding computing sameTable sameNumber sameTruth answered passes allPass words row row2 boxesFrom line room ab abRows textSheet catalogue placed positions
+positions-pass = tt

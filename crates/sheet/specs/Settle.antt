@@ -41,8 +41,8 @@ module _ (lent : Lent) where
   unfoldable pub extent : List ℤ → ℕ
   extent table =
       sumBelow (rows lent table) (λ m.
-        nat (shapeSet lent table (suc m))
-        + sumBelow (axes lent) (λ d. width (low lent table (suc m) d) (high lent table (suc m) d)))
+      nat (shapeSet lent table (suc m))
+      + sumBelow (axes lent) (λ d. width (low lent table (suc m) d) (high lent table (suc m) d)))
 
   -- rows 1 to n narrowed in turn, and again until a pass moves nothing
   unfoldable pub settleOf : List ℤ → Option (List ℤ)

@@ -1,6 +1,6 @@
 -- Document 01, "The text program": the form of a text, what reading it hands back (checks 1 to 8), and what the program prints.
 -- A text is the list of its bytes. Assumes nothing.
-use mathlib.Core.Bool.{Bool, true, false, cond, _&&_}
+use mathlib.Core.Bool.{true, false, cond, _&&_}
 use mathlib.Core.List.{List, [], _∷_, _++_}
 use mathlib.Core.Option.{Option, none, some}
 use Prim.Native.Char.{code}
@@ -81,9 +81,10 @@ addLine ws l = record { count = suc (l .count); words = ws ++ l .words; rest = l
 unfoldable pub linesOf : ℕ → ℕ → List (List ℕ) → Lines
 linesOf letter fields [] = record { count = 0; words = []; rest = [] }
 linesOf letter fields (l ∷ ls) =
-    elim (line letter fields l)
-    [ none ↦ record { count = 0; words = []; rest = l ∷ ls }
-    | some ws ↦ addLine ws (linesOf letter fields ls) ]
+    elim (line letter fields l) [
+      | none ↦ record { count = 0; words = []; rest = l ∷ ls }
+      | some ws ↦ addLine ws (linesOf letter fields ls)
+    ]
 
 -- block and table
 pub record Sheet : Type 0 where
@@ -160,7 +161,8 @@ reading text =
       block = padded 1507 (sheetRead text .block);
       blockUsed = length (sheetRead text .block);
       table = padded 288 (sheetRead text .table);
-      tableUsed = length (sheetRead text .table) }
+      tableUsed = length (sheetRead text .table);
+    }
 
 -- ---- what the program prints
 

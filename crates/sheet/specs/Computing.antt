@@ -1,5 +1,4 @@
--- Every marked position of document 01 is as it says. Assumes nothing.
-use lib.Dec.{T}
+-- One name that opens every definition, for a proof that computes a case: `unfolding computing`. Assumes nothing.
 use Rattle.integers.specs.Integer.{eqZ, within, width}
 use Rattle.integers.specs.Below.{_⇒_, allBelow, anyBelow, sumBelow, leastBelow, greatestBelow, valueOr}
 use Rattle.integers.specs.Bits.{bitAt, bit, holds, holdsOnly, setOf}
@@ -12,8 +11,8 @@ use Rattle.sheet.specs.Bounds.{bounding}
 use Rattle.sheet.specs.Narrow.{narrowing}
 use Rattle.sheet.specs.Settle.{settling}
 use Rattle.sheet.specs.Refusal.{refusing}
-use Rattle.sheet.specs.Positions.{allPass, positions, marked}
+use Rattle.sheet.specs.Text.{reading-and-printing}
 
-pub positions-pass : T (allPass positions)
-unfolding eqZ within width _⇒_ allBelow anyBelow sumBelow leastBelow greatestBelow valueOr bitAt bit holds holdsOnly setOf listBelow pairsBelow replaced sameWords bind pass rounds settleBy layout allowing placing bounding narrowing settling refusing marked
-positions-pass = tt
+unfoldable pub computing : Unit {0}
+unfolding eqZ within width _⇒_ allBelow anyBelow sumBelow leastBelow greatestBelow valueOr bitAt bit holds holdsOnly setOf listBelow pairsBelow replaced sameWords bind pass rounds settleBy layout allowing placing bounding narrowing settling refusing reading-and-printing
+computing = tt

@@ -1,6 +1,6 @@
 -- An accepted sheet keeps every bound: where no check applies, `Block` and `Table` hold (`accepted-block`, `accepted-table`), and a table
 -- of as many words that keeps `Table` is accepted again (`accepted-again`). Assumes nothing.
-use mathlib.Core.Path.{_≡_, refl, ap, ap₂, _∙_}
+use mathlib.Core.Path.{_≡_, refl, sym, ap, ap₂, _∙_, subst}
 use mathlib.Core.Logic.{⊎-elim}
 use mathlib.Core.Bool.{Bool, true, false, not, cond, _&&_, _||_}
 use mathlib.Core.List.{List}
@@ -290,6 +290,15 @@ module _ (lent : Lent) where
   pub rows-same : (u t : List ℤ) → length u ≡ length t → rows lent u ≡ rows lent t
   unfolding rows
   rows-same u t e = ap (λ (n : ℕ). n / rowLen lent) e
+
+  pub rows-again : (u t : List ℤ) → length u ≡ length t → Rows lent t → Rows lent u
+  rows-again u t e w =
+      let n = rows-same u t e in
+      record {
+        long = e ∙ w .long ∙ ap (λ (m : ℕ). m * rowLen lent) (sym n);
+        some-rows = subst (λ (m : ℕ). 1 ≤ m) (sym n) (w .some-rows);
+        few-rows = subst (λ (m : ℕ). m ≤ 32) (sym n) (w .few-rows);
+      }
 
   pub accepted-again : (t u : List ℤ) → refusal lent t ≡ 0 → length u ≡ length t → Table lent u → refusal lent u ≡ 0
   unfolding badRule

@@ -1,7 +1,7 @@
 -- MISSION DEMAND 2, second half: for one row and shape the least and the greatest coordinate found are those of the allowed points,
 -- and none is found exactly when no point is allowed (`least-of`, `greatest-of`). One proof serves both, over the order, and any
 -- test whose points lie in the row's ranges. Assumes nothing.
-use mathlib.Core.Path.{_≡_, sym, subst, subst⁻¹}
+use mathlib.Core.Path.{_≡_, refl, sym, ap, subst, subst⁻¹}
 use mathlib.Core.Logic.{⊎-elim}
 use mathlib.Core.Bool.{Bool, true, false}
 use mathlib.Core.List.{List}
@@ -12,6 +12,7 @@ use Rattle.integers.specs.Integer.{nat, width}
 use Rattle.integers.specs.Below.{leastBelow, greatestBelow}
 use Rattle.integers.specs.Words.{word}
 use Rattle.integers.proofs.Booleans.{clash}
+use Rattle.integers.proofs.Ints.{≤ℤ-antisym}
 use Rattle.integers.proofs.Below.{least-view, greatest-view}
 use Rattle.integers.proofs.Ranges.{count, count-below, counts}
 use Rattle.sheet.specs.Layout.{Lent, axes, low, high}
@@ -91,3 +92,18 @@ module _ (lent : Lent) (table : List ℤ) (i s d : ℕ) (hd : d < axes lent) whe
   pub greatest-of : Greatest (allowed lent table i s) d (greatestOf lent table i s d)
   unfolding greatestOf
   greatest-of = greatest-by lent table i (allowed lent table i s) agree (λ p e. allowed-parts lent table i s p e .0) d hd
+
+-- ---- one finding: two extremes of one test are equal, so whatever shows `Least` finds `leastOf`
+extreme-unique : {before : ℤ → ℤ → Type 0} {f : List ℤ → Bool} {d : ℕ} → ((a b : ℤ) → before a b → before b a → a ≡ b)
+    → (o o' : Option ℤ) → Extreme before f d o → Extreme before f d o' → o ≡ o'
+extreme-unique antisym none none x y = refl
+extreme-unique antisym none (some b) (nowhere h) (there p e w g) = absurd (h p e)
+extreme-unique antisym (some a) none (there p e w g) (nowhere h) = absurd (h p e)
+extreme-unique {before = before} antisym (some a) (some b) (there p e w g) (there q f x h) =
+    ap some (antisym a b (subst (before a) x (g q f)) (subst (before b) w (h p e)))
+
+pub least-unique : {f : List ℤ → Bool} {d : ℕ} (o o' : Option ℤ) → Least f d o → Least f d o' → o ≡ o'
+least-unique = extreme-unique (λ a b h k. ≤ℤ-antisym h k)
+
+pub greatest-unique : {f : List ℤ → Bool} {d : ℕ} (o o' : Option ℤ) → Greatest f d o → Greatest f d o' → o ≡ o'
+greatest-unique = extreme-unique (λ a b h k. ≤ℤ-antisym k h)

@@ -5,7 +5,7 @@ use mathlib.Core.Path.{_≡_, refl, sym, ap, _∙_, subst}
 use mathlib.Core.Logic.{_⊎_, inl, inr, ⊎-elim}
 use mathlib.Core.Bool.{true}
 use mathlib.Core.List.{List}
-use Prim.Native.Nat.{ℕ, suc, _+_, _*_, _≤_, _<_}
+use Prim.Native.Nat.{ℕ, suc, _+_, _≤_, _<_}
 use native.Mathlib.Nat.{add-le-add}
 use native.Mathlib.Omega.{arith}
 use lib.IntN.{ℤ, pos}
@@ -20,10 +20,10 @@ use Rattle.integers.proofs.Machine.{within-between}
 use Rattle.integers.proofs.Ranges.{width-le, width-lt}
 use Rattle.integers.proofs.Sets.{set-ge-1, set-le, set-ext}
 use Rattle.integers.proofs.Lists.{same-eq, same-not}
-use Rattle.sheet.specs.Layout.{Lent, axes, rowLen, rows, shapeSet, low, high, hasShape}
+use Rattle.sheet.specs.Layout.{Lent, axes, rows, shapeSet, low, high, hasShape}
 use Rattle.sheet.specs.Settle.{Inside, extent}
 use Rattle.sheet.specs.Accepted.{Table}
-use Rattle.sheet.proofs.Accepted.{rows-same}
+use Rattle.sheet.proofs.Accepted.{rows-same, rows-again}
 use Rattle.sheet.proofs.Rows.{WordOf, a-set, a-low, a-high, word-of, rows-ext}
 
 module _ (lent : Lent) where
@@ -62,11 +62,7 @@ module _ (lent : Lent) where
     pub inside-table : Table lent u
     inside-table =
         record {
-          whole = record {
-            long = x .as-long ∙ table .whole .long ∙ ap (λ (n : ℕ). n * rowLen lent) (sym (rows-same lent u t (x .as-long)));
-            some-rows = subst (λ (n : ℕ). 1 ≤ n) (sym (rows-same lent u t (x .as-long))) (table .whole .some-rows);
-            few-rows = subst (λ (n : ℕ). n ≤ 32) (sym (rows-same lent u t (x .as-long))) (table .whole .few-rows);
-          };
+          whole = rows-again lent u t (x .as-long) (table .whole);
           sets-from = λ i h k. set-from i h (row-of i k);
           sets-upto = λ i h k. set-upto i h (row-of i k);
           boxed = λ i s h k e. table .boxed i s h (row-of i k) (x .shapes i s h (row-of i k) e);

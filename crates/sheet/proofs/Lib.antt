@@ -9,7 +9,9 @@ pub mod Extremes
 pub mod Rows
 pub mod Monotone
 pub mod Narrows
+pub mod NarrowsOnce
 pub mod Inside
 pub mod Steps
+pub mod Local
 pub mod Demand3
 pub mod GoodSettled

@@ -42,24 +42,25 @@ module _ (lent : Lent) where
   left-by (narrowed p st n) = record { point = p; stands = st; left = n }
 
   -- ---- the tables on the way from t₀
+  pub record Good (t₀ t : List ℤ) : Type 0 where
+    pub table : Table lent t
+    pub as-long : length t ≡ length t₀
+
+  -- rows count from 0 in crates/fixpoint
+  abbrev pub narrow : ℕ → List ℤ → Option (List ℤ)
+  narrow m t = narrowOf lent t (suc m)
+
   module _ (dims : 0 < axes lent) (t₀ : List ℤ) where
-    pub record Good (t : List ℤ) : Type 0 where
-      pub table : Table lent t
-      pub as-long : length t ≡ length t₀
-
-    abbrev pub narrow : ℕ → List ℤ → Option (List ℤ)
-    narrow m t = narrowOf lent t (suc m)
-
-    row-in : {t : List ℤ} (m : ℕ) → Good t → m < rows lent t₀ → suc m ≤ rows lent t
+    row-in : {t : List ℤ} (m : ℕ) → Good t₀ t → m < rows lent t₀ → suc m ≤ rows lent t
     row-in {t} m g h = subst (λ (n : ℕ). m < n) (sym (rows-same lent t t₀ (g .as-long))) h
 
-    finds : (t : List ℤ) (m : ℕ) → Good t → m < rows lent t₀ → Narrows lent t (suc m) (narrow m t)
+    finds : (t : List ℤ) (m : ℕ) → Good t₀ t → m < rows lent t₀ → Narrows lent t (suc m) (narrow m t)
     finds t m g h = narrow-finds lent t (g .table) (suc m) (omega arith) (row-in m g h)
 
-    left : (t v : List ℤ) (m : ℕ) → Good t → m < rows lent t₀ → narrow m t ≡ some v → Left t (suc m) v
+    left : (t v : List ℤ) (m : ℕ) → Good t₀ t → m < rows lent t₀ → narrow m t ≡ some v → Left t (suc m) v
     left t v m g h e = left-by (subst (λ (o : Option (List ℤ)). Narrows lent t (suc m) o) e (finds t m g h))
 
-    survives : (t u : List ℤ) (m : ℕ) → Good t → m < rows lent t₀ → Settled lent u → Inside lent u t
+    survives : (t u : List ℤ) (m : ℕ) → Good t₀ t → m < rows lent t₀ → Settled lent u → Inside lent u t
         → (o : Option (List ℤ)) → Narrows lent t (suc m) o → Survives (Inside lent) u o
     survives t u m g h s x none (noPlace f) =
         let k = row-in m g h in
@@ -68,10 +69,10 @@ module _ (lent : Lent) where
     survives t u m g h s x (some v) (narrowed p st n) =
         narrowed-keeps lent t v (suc m) (omega arith) (row-in m g h) n dims u s x
 
-    inside-of : (t v : List ℤ) (m : ℕ) → Good t → m < rows lent t₀ → narrow m t ≡ some v → Inside lent v t
+    inside-of : (t v : List ℤ) (m : ℕ) → Good t₀ t → m < rows lent t₀ → narrow m t ≡ some v → Inside lent v t
     inside-of t v m g h e = narrowed-inside lent t v (suc m) (omega arith) (row-in m g h) (left t v m g h e .left)
 
-    good-of : (t v : List ℤ) (m : ℕ) → Good t → m < rows lent t₀ → narrow m t ≡ some v → Good v
+    good-of : (t v : List ℤ) (m : ℕ) → Good t₀ t → m < rows lent t₀ → narrow m t ≡ some v → Good t₀ v
     good-of t v m g h e =
         let w = left t v m g h e in
         record {
@@ -79,7 +80,7 @@ module _ (lent : Lent) where
           as-long = w .left .as-long ∙ g .as-long;
         }
 
-    settled-still : (t : List ℤ) → Good t → Still narrow (rows lent t₀) t → Settled lent t
+    settled-still : (t : List ℤ) → Good t₀ t → Still narrow (rows lent t₀) t → Settled lent t
     settled-still t g still =
         let at : (i : ℕ) → 1 ≤ i → i ≤ rows lent t → Narrowed lent t i t = λ i h k. each-row i h k in
         record {
@@ -94,7 +95,7 @@ module _ (lent : Lent) where
             left t t m g l (still m l) .left
         each-row zero h k = absurd (omega arith)
 
-    pub laws : Laws (Inside lent) (Settled lent) Good narrow sameWords (rows lent t₀) (extent lent)
+    pub laws : Laws (Inside lent) (Settled lent) (Good t₀) narrow sameWords (rows lent t₀) (extent lent)
     laws =
         record {
           rfl = inside-refl lent;
@@ -114,7 +115,7 @@ module _ (lent : Lent) where
     pub some-axes : 0 < axes lent
     some-axes = accepted-head lent t accepted .some-axes
 
-    pub good-start : Good some-axes t t
+    pub good-start : Good t t
     good-start = record { table = accepted-table lent t accepted; as-long = refl }
 
     pub demand-3 : Settles lent t (settleOf lent t)

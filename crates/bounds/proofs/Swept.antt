@@ -1,0 +1,118 @@
+-- The sweep of an area for row i with shape s, whose bad points are the forbidden ones: a candidate that is not forbidden has the
+-- extreme coordinate (`swept-found`), a region of forbidden points is jumped over (`swept-on`), and an exhausted sweep means that
+-- every point of the area is forbidden (`swept-none`). One set of laws for both ends, over flip. Assumes nothing.
+use mathlib.Core.Path.{_≡_, refl, sym, ap, _∙_, subst}
+use mathlib.Core.Bool.{Bool, true, false, not, _&&_}
+use mathlib.Core.List.{List}
+use mathlib.Core.Option.{none, some}
+use Prim.Native.Nat.{ℕ, _≤_, _<_}
+use lib.ListN.{length}
+use lib.IntN.{ℤ}
+use lib.Signed.{_≤ℤ_}
+use Rattle.integers.specs.Words.{word}
+use Rattle.integers.proofs.Booleans.{clash, and-true, true-and, not-true}
+use Rattle.sheet.specs.Layout.{Lent, axes}
+use Rattle.sheet.specs.Allowed.{forbidden}
+use Rattle.sheet.specs.Bounds.{Extreme, nowhere, there}
+use Rattle.region.specs.declared.Area.{Area}
+use Rattle.region.specs.Area.{inArea}
+use Rattle.region.proofs.Areas.{area-at, area-by}
+use Rattle.sweep.specs.declared.Sweep.{Sweep}
+use Rattle.sweep.specs.Point.{InBox, Near, turn, turned, turnedEnd}
+use Rattle.sweep.specs.Rotation.{rotation}
+use Rattle.sweep.specs.Moves.{begun, jumpedPast, advance}
+use Rattle.sweep.specs.Theorem.{Step, Reached, start, onward, pointsAfter, SweepTheorem}
+use Rattle.sweep.proofs.Interface.{rotation-range, rotation-first, sweep-theorem, least-turned, candidate-near}
+use Rattle.sweep.proofs.Mirror.{TurnedBox, box-in, box-out, box-filled, turned-turned, reverses-turn}
+use Rattle.bounds.specs.Search.{Ahead, freeIn}
+
+-- ---- areas as boxes
+area-box : {k : ℕ} {a : Area} (p : List ℤ) → inArea k a p ≡ true → InBox k (a .low) (a .high) p
+area-box {k} {a} p e = record { from = λ d h. area-at k a p e d h .0; upto = λ d h. area-at k a p e d h .1 }
+
+box-area : {k : ℕ} {a : Area} (p : List ℤ) → InBox k (a .low) (a .high) p → inArea k a p ≡ true
+box-area {k} {a} p b = area-by k a p (λ d h. (b .from d h, b .upto d h))
+
+-- turned coordinates in the order of the integers: the coordinates stand in the order of the search
+turn-ahead : (flip : Bool) (y z : ℤ) → turn flip y ≤ℤ turn flip z → Ahead flip y z
+unfolding turn
+turn-ahead true y z h = reverses-turn y z h
+turn-ahead false y z h = h
+
+module _ (lent : Lent) (t : List ℤ) (i s d : ℕ) (few : axes lent ≤ 4) (hd : d < axes lent) (flip : Bool) (a : Area)
+         (filled : inArea (axes lent) a (a .low) ≡ true)
+         (first end : List ℤ) (box : TurnedBox flip (a .low) (a .high) first end)
+         (first-long : axes lent ≤ length first) (end-long : axes lent ≤ length end) where
+  -- the sweep's points are turned: a point q of it stands for the point turned flip q
+  abbrev Bad : List ℤ → Type 0
+  Bad q = forbidden lent t i s (turned flip q) ≡ true
+
+  abbrev pub Swept : Sweep → Type 0
+  Swept w = Reached (axes lent) (rotation (axes lent) d) first end Bad w
+
+  theorem : SweepTheorem (axes lent) (rotation (axes lent) d) first end Bad
+  theorem = sweep-theorem (rotation-range few hd first-long end-long (box-filled box (area-box (a .low) filled))) Bad
+
+  pub swept-start : {w : Sweep} → w ≡ begun first end → Swept w
+  swept-start e = start e
+
+  -- a point of the area, turned, is one of the sweep's range
+  in-range : (p : List ℤ) → inArea (axes lent) a p ≡ true → InBox (axes lent) first end (turned flip p)
+  in-range p e = box-in box (rw turned-turned (area-box p e))
+
+  not-bad : (p : List ℤ) → forbidden lent t i s p ≡ false → Bad (turned flip p) → ⊥
+  not-bad p e b = clash (ap (forbidden lent t i s) (sym (turned-turned flip p)) ∙ b) e
+
+  free-parts : (p : List ℤ) → freeIn lent t i s a p ≡ true → (inArea (axes lent) a p ≡ true) × (forbidden lent t i s p ≡ false)
+  unfolding freeIn
+  free-parts p e = let w = and-true e in (w .0, not-true (w .1))
+
+  free-by : (p : List ℤ) → inArea (axes lent) a p ≡ true → forbidden lent t i s p ≡ false → freeIn lent t i s a p ≡ true
+  unfolding freeIn
+  free-by p e f = true-and e (ap not f)
+
+  module _ {w : Sweep} (r : Swept w) where
+    pub swept-near : w .live ≡ true → Near first → Near end → Near (w .candidate)
+    swept-near l m n = candidate-near theorem r l m n
+
+    -- p is the point that the candidate stands for
+    module _ {p : List ℤ} (point : p ≡ turned flip (w .candidate)) where
+      pub swept-in : w .live ≡ true → inArea (axes lent) a p ≡ true
+      swept-in l = subst (λ (q : List ℤ). inArea (axes lent) a q ≡ true) (sym point) (box-area _ (box-out box (theorem .inside r l)))
+
+      pub swept-found : w .live ≡ true → forbidden lent t i s p ≡ false → Extreme (Ahead flip) (freeIn lent t i s a) d (some (word p d))
+      swept-found l e =
+          there p (free-by p (swept-in l) e) refl (λ q f.
+            let g = free-parts q f in
+            turn-ahead flip (word p d) (word q d)
+            (least-turned theorem r l (rotation-first few hd) flip point q (in-range q (g .0)) (not-bad q (g .1))))
+
+      -- an area around p, all of whose points are forbidden, that ends at last when it is turned
+      module _ (live : w .live ≡ true) (x : Area) {last : List ℤ} (ends : last ≡ turnedEnd flip (x .low) (x .high))
+               (last-long : axes lent ≤ length last) (around : inArea (axes lent) x p ≡ true)
+               (only : (q : List ℤ) → inArea (axes lent) x q ≡ true → forbidden lent t i s q ≡ true)
+               {next : Sweep} (moves : next ≡ advance (rotation (axes lent) d) first end (axes lent) (jumpedPast w last)) where
+        turned-x : TurnedBox flip (x .low) (x .high) (turnedEnd flip (x .high) (x .low)) last
+        turned-x = record { start = refl; end = ends }
+
+        step : Step (axes lent) (rotation (axes lent) d) first end Bad w next
+        step =
+            record {
+              live = live; first = turnedEnd flip (x .high) (x .low); last = last; long = last-long;
+              around = box-in turned-x (subst (InBox (axes lent) (x .low) (x .high)) point (area-box p around));
+              bad = λ q b c. only (turned flip q) (box-area (turned flip q) (box-out turned-x c));
+              next = moves }
+
+        pub swept-on : Swept next
+        swept-on = onward r step
+
+        pub swept-falls : next .live ≡ true
+            → pointsAfter (rotation (axes lent) d) first end (axes lent) (next .candidate)
+            < pointsAfter (rotation (axes lent) d) first end (axes lent) (w .candidate)
+        swept-falls l = theorem .falls r step l
+
+    pub swept-none : w .live ≡ false → Extreme (Ahead flip) (freeIn lent t i s a) d none
+    swept-none l =
+        nowhere (λ p e.
+          let g = free-parts p e in
+          not-bad p (g .1) (theorem .exhausted r l (turned flip p) (in-range p (g .0))))

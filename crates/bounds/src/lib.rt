@@ -1,0 +1,71 @@
+// The least and the greatest coordinate of the points at which a row is allowed with a shape (document 01): the sweep of the cut box, which
+// asks at each candidate for a region that forbids it. One search serves both ends: the greatest is the least of the mirrored points.
+ghost use mathlib.Core.Path.{_≡_};
+ghost use mathlib.Core.Bool.{Bool, true, false};
+ghost use Prim.Native.Nat.{ℕ, _<_, _≤_};
+ghost use lib.IntN.{ℤ, pos};
+ghost use Rattle.integers.specs.Integer.{nat};
+ghost use Rattle.sheet.specs.Layout.{lentOf, axes};
+ghost use Rattle.sheet.specs.Bounds.{Extreme};
+ghost use Rattle.sheet.specs.Accepted.{Block, Table};
+ghost use Rattle.words.specs.Places.{RowPlace};
+ghost use Rattle.region.specs.Area.{inArea, Small};
+ghost use Rattle.bounds.specs.Search.{Ahead, freeIn, coordinate, extremeOf};
+use region::Area;
+use sweep::Sweep;
+use words::Place;
+
+// A coordinate that was found, or none.
+pub enum Found {
+    At(i64),
+    Nothing,
+}
+
+// The least coordinate in dimension d, or where flip is set the greatest, of the area's points that no rule forbids to row i with
+// shape s. The sweep's candidate is a point, or its mirror image.
+pub fn search(block: &[i64], table: &[i64], i: Place, s: usize, d: usize, flip: bool, area: Area) -> Found
+    requires { ⌜ Block (lentOf (now block)) × Table (lentOf (now block)) (now table) × RowPlace (lentOf (now block)) (now table) i
+        × (d < axes (lentOf (now block))) × Small area × (inArea (axes (lentOf (now block))) area (area .low) ≡ true) ⌝ }
+    ensures { λ r. ⌜ Extreme (Ahead flip) (freeIn (lentOf (now (block .entry))) (now (table .entry)) (i .number) s area) d (coordinate r) ⌝ }
+{
+    let k = words::axes_of(block);
+    let low = area.low;
+    let high = area.high;
+    let first = sweep::turned_end(high, low, flip);
+    let end = sweep::turned_end(low, high, flip);
+    let mut w = Sweep::new(first, end);
+    loop {
+        let candidate = w.candidate;
+        let p = sweep::turned_point(candidate, flip);
+        let x = forbid::forbidding_region(block, table, i, s, p);
+        let hit = x.hit;
+        if !hit {
+            return Found::At(p[d]);
+        }
+        let bad = x.area;
+        let from = bad.low;
+        let to = bad.high;
+        let last = sweep::turned_end(from, to, flip);
+        w = w.jumped(last);
+        w = w.advanced(k, d, first, end);
+        let live = w.live;
+        if !live {
+            return Found::Nothing;
+        }
+    }
+}
+
+// The same of the points at which the row is allowed.
+pub fn extreme(block: &[i64], table: &[i64], i: Place, s: usize, d: usize, flip: bool) -> Found
+    requires { ⌜ Block (lentOf (now block)) × Table (lentOf (now block)) (now table) × RowPlace (lentOf (now block)) (now table) i
+        × (d < axes (lentOf (now block))) ⌝ }
+    ensures { λ r. ⌜ coordinate r ≡ extremeOf flip (lentOf (now (block .entry))) (now (table .entry)) (i .number) s d ⌝ }
+{
+    let k = words::axes_of(block);
+    let cut = region::cut_box(block, table, i, s);
+    let bottom = cut.low;
+    if !cut.holds(k, bottom) {
+        return Found::Nothing;
+    }
+    search(block, table, i, s, d, flip, cut)
+}

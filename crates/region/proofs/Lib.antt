@@ -1,0 +1,4 @@
+pub mod Sums
+pub mod Areas
+pub mod Cut
+pub mod Contained

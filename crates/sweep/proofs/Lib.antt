@@ -1,0 +1,10 @@
+pub mod Points
+pub mod Mirror
+pub mod Rotations
+pub mod Adjust
+pub mod Cover
+pub mod After
+pub mod State
+pub mod Descent
+pub mod Theorem
+pub mod Interface

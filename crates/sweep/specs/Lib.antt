@@ -1,0 +1,4 @@
+pub mod Point
+pub mod Rotation
+pub mod Moves
+pub mod Theorem

@@ -6,12 +6,15 @@ ghost use Prim.Native.Nat.{ℕ, _<_, _≤_};
 ghost use lib.IntN.{ℤ, pos};
 ghost use Rattle.integers.specs.Integer.{nat};
 ghost use Rattle.sheet.specs.Layout.{lentOf, axes};
-ghost use Rattle.sheet.specs.Bounds.{Extreme};
+ghost use Rattle.sheet.specs.Bounds.{Extreme, leastOf, greatestOf};
+ghost use Rattle.sheet.specs.Refusal.{refusalDim};
+ghost use Rattle.sheet.specs.Answer.{boundAnswer};
 ghost use Rattle.sheet.specs.Accepted.{Block, Table};
 ghost use Rattle.words.specs.Places.{RowPlace};
 ghost use Rattle.region.specs.Area.{inArea, Small};
 ghost use Rattle.bounds.specs.Search.{Ahead, freeIn, coordinate, extremeOf};
 use region::Area;
+use sheet::Bound;
 use sweep::Sweep;
 use words::Place;
 
@@ -68,4 +71,33 @@ pub fn extreme(block: &[i64], table: &[i64], i: Place, s: usize, d: usize, flip:
         return Found::Nothing;
     }
     search(block, table, i, s, d, flip, cut)
+}
+
+fn bound(block: &[i64], table: &[i64], row: i64, shape: i64, dimension: i64, flip: bool) -> Bound
+    ensures { λ r. ⌜ r ≡ boundAnswer (refusalDim (lentOf (now (block .entry))) (now (table .entry)) row shape dimension)
+        (extremeOf flip (lentOf (now (block .entry))) (now (table .entry)) (nat row) (nat shape) (nat dimension)) ⌝ }
+{
+    let g = accept::dim_refusal(block, table, row, shape, dimension);
+    if g > 0 {
+        return Bound::Refused(g);
+    }
+    let i = words::row_place(block, table, row as usize);
+    match extreme(block, table, i, shape as usize, dimension as usize, flip) {
+        Found::At(z) => Bound::At(z),
+        Found::Nothing => Bound::Nothing,
+    }
+}
+
+pub fn least(block: &[i64], table: &[i64], row: i64, shape: i64, dimension: i64) -> Bound
+    ensures { λ r. ⌜ r ≡ boundAnswer (refusalDim (lentOf (now (block .entry))) (now (table .entry)) row shape dimension)
+        (leastOf (lentOf (now (block .entry))) (now (table .entry)) (nat row) (nat shape) (nat dimension)) ⌝ }
+{
+    bound(block, table, row, shape, dimension, false)
+}
+
+pub fn greatest(block: &[i64], table: &[i64], row: i64, shape: i64, dimension: i64) -> Bound
+    ensures { λ r. ⌜ r ≡ boundAnswer (refusalDim (lentOf (now (block .entry))) (now (table .entry)) row shape dimension)
+        (greatestOf (lentOf (now (block .entry))) (now (table .entry)) (nat row) (nat shape) (nat dimension)) ⌝ }
+{
+    bound(block, table, row, shape, dimension, true)
 }

@@ -1,0 +1,66 @@
+-- `accept::table::shapes_boxed` meets its contract: a shape is tested a turn. Assumes nothing.
+use mathlib.Core.Path.{_≡_, sym}
+use mathlib.Core.Bool.{Bool, true}
+use Prim.Native.Nat.{ℕ, _-_, _≤_}
+use native.Mathlib.Omega.{arith}
+use borrow.Author.Needs.{needs}
+use denote.Ref.{now}
+use Rattle.integers.specs.Below.{allUpTo}
+use Rattle.integers.proofs.Below.{all-zero}
+use Rattle.sheet.specs.Layout.{lentOf}
+use Rattle.accept.specs.Parts.{shapeBoxed}
+use Rattle.accept.proofs.Turns.{fails-by, passes-by, upto-next, upto-false, all-done}
+use Rattle.accept.proofs.table.shapes_boxed.Statement.{statement}
+use Rattle.accept.proofs.table.shapes_boxed.Tie as tie
+
+abbrev Inv-loop : tie.InvT-loop
+Inv-loop block table i flags s₀ s = (s ≤ 32) × (allUpTo s (shapeBoxed (lentOf block) table (i .number)) ≡ true)
+
+abbrev μ-loop : tie.MeasureT-loop
+μ-loop block table i flags s₀ s = 32 - s
+
+abbrev test : tie.At-loop Inv-loop μ-loop → ℕ → Bool
+test c = let a = c .before .args in shapeBoxed (lentOf (now (a .block))) (now (a .table)) (a .i .number)
+
+loop-holds : tie.Need-loop-holds Inv-loop μ-loop
+loop-holds c = (search needs, all-zero _)
+
+add-shape-boxed : tie.Need-add-shape-boxed Inv-loop μ-loop
+add-shape-boxed c = search needs
+
+shape-boxed-requires : tie.Need-shape-boxed-requires Inv-loop μ-loop
+shape-boxed-requires c κs = let s = c .before .before .pre in (s .0, s .1, s .2, s .3, s .4, omega arith, omega arith)
+
+returns : tie.Need-returns Inv-loop μ-loop
+returns c =
+    let l = c .before .before .before in
+    sym (upto-false (test l) (c .before .before .loop-test .taken) (fails-by (c .before .shape-boxed .ensures) (c .if1 .taken)))
+
+add-s : tie.Need-add-s Inv-loop μ-loop
+add-s c = search needs
+
+loop-less : tie.Need-loop-less Inv-loop μ-loop
+loop-less c = search needs
+
+loop-again : tie.Need-loop-again Inv-loop μ-loop
+loop-again c =
+    let l = c .before .before .before in
+    (search needs, upto-next _ (test l) (l .loop .inv .1) (passes-by (c .before .shape-boxed .ensures) (c .if1 .left)))
+
+returns-2 : tie.Need-returns-2 Inv-loop μ-loop
+returns-2 c = sym (all-done _ (c .before .loop .inv .1) (omega arith))
+
+pub shapes-boxed-spec : {M : Type 1} → statement M
+shapes-boxed-spec =
+    tie.close
+    (tie.spec
+    Inv-loop
+    μ-loop
+    loop-holds
+    add-shape-boxed
+    shape-boxed-requires
+    returns
+    add-s
+    loop-less
+    loop-again
+    returns-2)

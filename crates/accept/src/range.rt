@@ -1,0 +1,40 @@
+// Words and ranges, as checks 6 to 12 test them.
+ghost use mathlib.Core.Path.{_≡_};
+ghost use Prim.Native.Nat.{_-_, _^_, _≤_};
+ghost use lib.IntN.{pos};
+ghost use Rattle.integers.specs.Integer.{eqZ, within};
+ghost use Rattle.accept.specs.Parts.{validRange};
+
+pub fn is_equal(a: i64, b: i64) -> bool
+    ensures { λ r. ⌜ r ≡ eqZ a b ⌝ }
+{
+    a == b
+}
+
+pub fn valid_range(a: i64, b: i64) -> bool
+    ensures { λ r. ⌜ r ≡ validRange a b ⌝ }
+{
+    if !words::is_within(a, -1000000, 1000000) {
+        return false;
+    }
+    if !words::is_within(b, -1000000, 1000000) {
+        return false;
+    }
+    a <= b
+}
+
+// A set of some of the numbers 1 to n.
+pub fn valid_set(set: i64, n: usize) -> bool
+    requires { ⌜ n ≤ 32 ⌝ }
+    ensures { λ r. ⌜ r ≡ within (pos 1) (pos (2 ^ n - 1)) set ⌝ }
+{
+    words::is_within(set, 1, full_set(n))
+}
+
+// All of them.
+fn full_set(n: usize) -> i64
+    requires { ⌜ n ≤ 32 ⌝ }
+    ensures { λ r. ⌜ r ≡ pos (2 ^ n - 1) ⌝ }
+{
+    ((1u64 << n) - 1) as i64
+}

@@ -1,0 +1,158 @@
+// Checks 5, 8 and 12: the table. Each function leans on the checks before it, as document 01 orders them.
+ghost use mathlib.Core.Path.{_≡_};
+ghost use mathlib.Core.Bool.{false};
+ghost use Prim.Native.Nat.{_<_, _≤_};
+ghost use Rattle.integers.specs.Below.{allBelow, allUpTo};
+ghost use Rattle.sheet.specs.Layout.{lentOf, axes, shapeSet, validRow};
+ghost use Rattle.sheet.specs.Placement.{rowFixed};
+ghost use Rattle.sheet.specs.Refusal.{badBox, badTableLength, badRow, notFixed};
+ghost use Rattle.sheet.specs.Accepted.{Count, Head, Rows, Table};
+ghost use Rattle.words.specs.Places.{RowPlace};
+ghost use Rattle.accept.specs.Parts.{validRowRange, fixedRange, shapeBoxed, Flags};
+use super::range;
+use words::Place;
+
+// ---- 5: the length
+
+pub fn bad_table_length(block: &[i64], table: &[i64]) -> bool
+    requires { ⌜ Head (lentOf (now block)) ⌝ }
+    ensures { λ r. ⌜ r ≡ badTableLength (lentOf (now (block .entry))) (now (table .entry)) ⌝ }
+{
+    let w = words::row_len(block);
+    let n = words::rows_of(block, table);
+    if table.len() != n * w {
+        return true;
+    }
+    n < 1 || 32 < n
+}
+
+// ---- 8: the rows
+
+pub fn bad_row(block: &[i64], table: &[i64]) -> bool
+    requires { ⌜ Head (lentOf (now block)) × Rows (lentOf (now block)) (now table) × (badBox (lentOf (now block)) ≡ false) ⌝ }
+    ensures { λ r. ⌜ r ≡ badRow (lentOf (now (block .entry))) (now (table .entry)) ⌝ }
+{
+    let n = words::rows_of(block, table);
+    let flags = boxed_shapes(block);
+    let mut i = 0;
+    while i < n {
+        if !valid_row(block, table, words::row_place(block, table, i + 1), flags) {
+            return true;
+        }
+        i += 1;
+    }
+    false
+}
+
+// For each shape, whether it has a box.
+fn boxed_shapes(block: &[i64]) -> [bool; 33]
+    requires { ⌜ Head (lentOf (now block)) × (badBox (lentOf (now block)) ≡ false) ⌝ }
+    ensures { λ r. ⌜ Flags (lentOf (now (block .entry))) r ⌝ }
+{
+    let n = words::boxes_of(block);
+    let mut flags = [false; 33];
+    let mut b = 0;
+    while b < n {
+        let s = words::shape_number(block, words::box_place(block, b));
+        flags[s] = true;
+        b += 1;
+    }
+    flags
+}
+
+fn valid_row(block: &[i64], table: &[i64], i: Place, flags: [bool; 33]) -> bool
+    requires { ⌜ Head (lentOf (now block)) × Rows (lentOf (now block)) (now table) × RowPlace (lentOf (now block)) (now table) i
+        × Flags (lentOf (now block)) flags ⌝ }
+    ensures { λ r. ⌜ r ≡ validRow (lentOf (now (block .entry))) (now (table .entry)) (i .number) ⌝ }
+{
+    if !range::valid_set(words::shape_set_of(block, table, i), 32) {
+        return false;
+    }
+    shapes_boxed(block, table, i, flags) && valid_ranges(block, table, i)
+}
+
+fn shapes_boxed(block: &[i64], table: &[i64], i: Place, flags: [bool; 33]) -> bool
+    requires { ⌜ Head (lentOf (now block)) × Rows (lentOf (now block)) (now table) × RowPlace (lentOf (now block)) (now table) i
+        × Count (shapeSet (lentOf (now block)) (now table) (i .number)) × Flags (lentOf (now block)) flags ⌝ }
+    ensures { λ r. ⌜ r ≡ allUpTo 32 (shapeBoxed (lentOf (now (block .entry))) (now (table .entry)) (i .number)) ⌝ }
+{
+    let mut s = 0;
+    while s < 32 {
+        if !shape_boxed(block, table, i, flags, s + 1) {
+            return false;
+        }
+        s += 1;
+    }
+    true
+}
+
+fn shape_boxed(block: &[i64], table: &[i64], i: Place, flags: [bool; 33], s: usize) -> bool
+    requires { ⌜ Head (lentOf (now block)) × Rows (lentOf (now block)) (now table) × RowPlace (lentOf (now block)) (now table) i
+        × Count (shapeSet (lentOf (now block)) (now table) (i .number)) × Flags (lentOf (now block)) flags × (1 ≤ s) × (s ≤ 32) ⌝ }
+    ensures { λ r. ⌜ r ≡ shapeBoxed (lentOf (now (block .entry))) (now (table .entry)) (i .number) s ⌝ }
+{
+    !words::has_shape(block, table, i, s) || flags[s]
+}
+
+fn valid_ranges(block: &[i64], table: &[i64], i: Place) -> bool
+    requires { ⌜ Head (lentOf (now block)) × Rows (lentOf (now block)) (now table) × RowPlace (lentOf (now block)) (now table) i ⌝ }
+    ensures { λ r. ⌜ r ≡ allBelow (axes (lentOf (now (block .entry))))
+        (validRowRange (lentOf (now (block .entry))) (now (table .entry)) (i .number)) ⌝ }
+{
+    let k = words::axes_of(block);
+    let mut d = 0;
+    while d < k {
+        if !range::valid_range(
+            words::low_of(block, table, i, d),
+            words::high_of(block, table, i, d),
+        ) {
+            return false;
+        }
+        d += 1;
+    }
+    true
+}
+
+// ---- 12: a fixed placement
+
+pub fn not_fixed(block: &[i64], table: &[i64]) -> bool
+    requires { ⌜ Head (lentOf (now block)) × Table (lentOf (now block)) (now table) ⌝ }
+    ensures { λ r. ⌜ r ≡ notFixed (lentOf (now (block .entry))) (now (table .entry)) ⌝ }
+{
+    let n = words::rows_of(block, table);
+    let mut i = 0;
+    while i < n {
+        if !row_fixed(block, table, words::row_place(block, table, i + 1)) {
+            return true;
+        }
+        i += 1;
+    }
+    false
+}
+
+fn row_fixed(block: &[i64], table: &[i64], i: Place) -> bool
+    requires { ⌜ Head (lentOf (now block)) × Rows (lentOf (now block)) (now table) × RowPlace (lentOf (now block)) (now table) i
+        × Count (shapeSet (lentOf (now block)) (now table) (i .number)) ⌝ }
+    ensures { λ r. ⌜ r ≡ rowFixed (lentOf (now (block .entry))) (now (table .entry)) (i .number) ⌝ }
+{
+    u32::count_ones(words::shapes_of(block, table, i)) == 1 && ranges_fixed(block, table, i)
+}
+
+fn ranges_fixed(block: &[i64], table: &[i64], i: Place) -> bool
+    requires { ⌜ Head (lentOf (now block)) × Rows (lentOf (now block)) (now table) × RowPlace (lentOf (now block)) (now table) i ⌝ }
+    ensures { λ r. ⌜ r ≡ allBelow (axes (lentOf (now (block .entry))))
+        (fixedRange (lentOf (now (block .entry))) (now (table .entry)) (i .number)) ⌝ }
+{
+    let k = words::axes_of(block);
+    let mut d = 0;
+    while d < k {
+        if !range::is_equal(
+            words::low_of(block, table, i, d),
+            words::high_of(block, table, i, d),
+        ) {
+            return false;
+        }
+        d += 1;
+    }
+    true
+}

@@ -43,7 +43,8 @@ module _ {k : ℕ} {p : List ℤ} where
     forbids-and {F} e f = forbids-same (λ q. ap (λ (b : Bool). b && F q) (sym e)) f
 
     -- a hit is one of every test that F implies
-    pub forbids-by : {F G : List ℤ → Bool} → ((q : List ℤ) → F q ≡ true → G q ≡ true) → x .hit ≡ true → Forbids k F p x → Forbids k G p x
+    pub forbids-by : {F G : List ℤ → Bool} → ((q : List ℤ) → F q ≡ true → G q ≡ true) → x .hit ≡ true
+        → Forbids k F p x → Forbids k G p x
     forbids-by e t f = record {
       hit = t ∙ sym (e p (sym (f .hit) ∙ t));
       around = f .around;
@@ -51,7 +52,8 @@ module _ {k : ℕ} {p : List ℤ} where
       small = f .small;
     }
 
-    pub forbids-any : {n m : ℕ} (F : ℕ → List ℤ → Bool) → m < n → x .hit ≡ true → Forbids k (F m) p x → Forbids k (λ q. anyBelow n (λ j. F j q)) p x
+    pub forbids-any : {n m : ℕ} (F : ℕ → List ℤ → Bool) → m < n → x .hit ≡ true
+        → Forbids k (F m) p x → Forbids k (λ q. anyBelow n (λ j. F j q)) p x
     forbids-any {m} F l t f = forbids-by (λ q h. any-true (λ j. F j q) m l h) t f
 
 -- ---- a loop, after one more turn that missed

@@ -17,9 +17,9 @@ use Rattle.integers.proofs.Below.{upto-some}
 use Rattle.integers.proofs.Bits.{one-lt}
 use Rattle.integers.proofs.Sets.{set-below, only-test, no-only}
 use Rattle.sheet.specs.Layout.{Lent, boxes, isOf, namesRow, rows, shapeSet, hasOnly}
-use Rattle.sheet.specs.Allowed.{shapesForbid, setForbids, rowForbids}
+use Rattle.sheet.specs.Allowed.{pairForbids, shapesForbid, setForbids, rowForbids}
 use Rattle.sheet.proofs.Forbidden.{set-by, set-parts}
-use Rattle.forbid.specs.Region.{OnlyShape, boxForbids, rowsForbid}
+use Rattle.forbid.specs.Region.{OnlyShape, rowsForbid}
 
 module _ (lent : Lent) (t : List ℤ) where
   -- ---- the one shape of a set; n is the set as the code holds it
@@ -41,19 +41,23 @@ module _ (lent : Lent) (t : List ℤ) where
           upto = omega arith;
         }
 
+  -- ---- box b with box c, of shape s'
+  abbrev pub boxForbids : ℕ → ℕ → ℕ → ℕ → ℕ → ℕ → List ℤ → Bool
+  boxForbids r i b j s' c p = isOf lent c s' && pairForbids lent t r p i b j c
+
   module _ (r i s j : ℕ) where
     -- ---- box b of shape s, with some box of shape s'
     abbrev pub ownForbids : ℕ → ℕ → List ℤ → Bool
-    ownForbids s' b p = isOf lent b s && anyBelow (boxes lent) (λ c. boxForbids lent t r i b j s' c p)
+    ownForbids s' b p = isOf lent b s && anyBelow (boxes lent) (λ c. boxForbids r i b j s' c p)
 
     -- as a loop over the boxes leaves it: m is the box's number, and all n boxes are passed
-    pub own-clear : (s' : ℕ) (p : List ℤ) {b m n : ℕ} → m ≡ b → n ≡ boxes lent → anyBelow n (λ c. boxForbids lent t r i m j s' c p) ≡ false
-        → ownForbids s' b p ≡ false
-    own-clear s' p {b} e g h =
+    pub passed-none : (s' : ℕ) (p : List ℤ) {b m n : ℕ} → m ≡ b → n ≡ boxes lent
+        → anyBelow n (λ c. boxForbids r i m j s' c p) ≡ false → ownForbids s' b p ≡ false
+    passed-none s' p {b} e g h =
         ap (λ (x : Bool). isOf lent b s && x) (rw (sym e, sym g) h) ∙ and-false (isOf lent b s)
 
-    pub other-shape : (s' : ℕ) (p : List ℤ) {b m : ℕ} → m ≡ b → isOf lent m s ≡ false → ownForbids s' b p ≡ false
-    other-shape s' p e h = rw (sym e, h)
+    pub other-shape-none : (s' : ℕ) (p : List ℤ) {b m : ℕ} → m ≡ b → isOf lent m s ≡ false → ownForbids s' b p ≡ false
+    other-shape-none s' p e h = rw (sym e, h)
 
     -- ---- the other row's set
     module _ {y : ℕ} (o : OnlyShape lent t j y) where
@@ -63,8 +67,8 @@ module _ (lent : Lent) (t : List ℤ) where
       pub several-none : y ≡ 0 → (p : List ℤ) → setForbids lent t r p i s j ≡ false
       several-none e p = fails (λ h. let w = set-parts lent t r i s j p h in omega (arith, w .from, e, shape-is (w .from) (w .only)))
 
-      pub one-set : (y ≡ 0 → ⊥) → (p : List ℤ) → shapesForbid lent t r p i s j y ≡ setForbids lent t r p i s j
-      one-set n p =
+      pub single-set : (y ≡ 0 → ⊥) → (p : List ℤ) → shapesForbid lent t r p i s j y ≡ setForbids lent t r p i s j
+      single-set n p =
           let h : 1 ≤ y = omega (arith, n) in
           both-ways _ _
           (λ e. set-by lent t r i s j p (record { shape = y; from = h; upto = o .upto; only = o .is y h ∙ eq-eqb y y refl; forbids = e }))
@@ -72,18 +76,18 @@ module _ (lent : Lent) (t : List ℤ) where
           subst (λ (x : ℕ). shapesForbid lent t r p i s j x ≡ true) (sym (shape-is (w .from) (w .only))) (w .forbids))
 
     -- ---- the other row
-    pub own-row : i ≡ j → (p : List ℤ) → rowForbids lent t r p i s j ≡ false
+    pub itself-none : i ≡ j → (p : List ℤ) → rowForbids lent t r p i s j ≡ false
     unfolding rowForbids
-    own-row e p = rw (eq-eqb i j e)
+    itself-none e p = rw (eq-eqb i j e)
 
     module _ (n : i ≡ j → ⊥) where
-      pub unnamed-row : namesRow lent r j ≡ false → (p : List ℤ) → rowForbids lent t r p i s j ≡ false
+      pub unnamed-none : namesRow lent r j ≡ false → (p : List ℤ) → rowForbids lent t r p i s j ≡ false
       unfolding rowForbids
-      unnamed-row e p = rw (ne-eqb i j n, e)
+      unnamed-none e p = rw (ne-eqb i j n, e)
 
-      pub named-row : namesRow lent r j ≡ true → (p : List ℤ) → setForbids lent t r p i s j ≡ rowForbids lent t r p i s j
+      pub named-set : namesRow lent r j ≡ true → (p : List ℤ) → setForbids lent t r p i s j ≡ rowForbids lent t r p i s j
       unfolding rowForbids
-      named-row e p = rw (ne-eqb i j n, e)
+      named-set e p = rw (ne-eqb i j n, e)
 
     pub some-row : 1 ≤ j → j ≤ rows lent t → (p : List ℤ) → rowForbids lent t r p i s j ≡ true → rowsForbid lent t r i s p ≡ true
     unfolding rowsForbid

@@ -6,8 +6,8 @@ use Prim.Native.Nat.{ℕ, _≤_}
 use lib.Dec.{eqb}
 use lib.IntN.{ℤ}
 use Rattle.integers.specs.Below.{anyUpTo}
-use Rattle.sheet.specs.Layout.{Lent, axes, isOf, isNonOverlap, namesRow, rows, hasOnly}
-use Rattle.sheet.specs.Allowed.{pairForbids, rowForbids}
+use Rattle.sheet.specs.Layout.{Lent, axes, isNonOverlap, namesRow, rows, hasOnly}
+use Rattle.sheet.specs.Allowed.{rowForbids}
 use Rattle.sheet.specs.Accepted.{Block, Table}
 use Rattle.words.specs.declared.Place.{Place}
 use Rattle.words.specs.Places.{RowPlace}
@@ -36,10 +36,6 @@ module _ (lent : Lent) (t : List ℤ) where
   pub record OnlyShape (j x : ℕ) : Type 0 where
     pub is : (s : ℕ) → 1 ≤ s → hasOnly lent t j s ≡ eqb x s
     pub upto : x ≤ 32
-
-  -- box c is one of shape s', and the pair forbids p
-  unfoldable pub boxForbids : ℕ → ℕ → ℕ → ℕ → ℕ → ℕ → List ℤ → Bool
-  boxForbids r i b j s' c p = isOf lent c s' && pairForbids lent t r p i b j c
 
   -- some row forbids p by rule r; the rule is one of kind 1 that names row i
   unfoldable pub rowsForbid : ℕ → ℕ → ℕ → List ℤ → Bool

@@ -1,16 +1,16 @@
 // The points that the non-overlap rules forbid to a row: a forbidden point with an area around it in which every point is forbidden.
-// This is the one place that knows rules of kind 1.
+// This crate is the one place that knows rules of kind 1.
 mod pair;
+mod row;
 
 ghost use mathlib.Core.Path.{_≡_};
 ghost use mathlib.Core.Bool.{_&&_};
 ghost use Prim.Native.Nat.{_<_, _≤_};
-ghost use Rattle.sheet.specs.Layout.{lentOf, axes, rules, rows, isNonOverlap, namesRow};
-ghost use Rattle.sheet.specs.Allowed.{shapesForbid, setForbids, rowForbids, forbidden};
-ghost use Rattle.sheet.specs.Accepted.{Block, Table};
-ghost use Rattle.words.specs.Places.{BoxPlace, RulePlace, RowPlace};
-ghost use Rattle.forbid.specs.Pair.{PairPlaces};
-ghost use Rattle.forbid.specs.Region.{Forbids, noRegion, Asked, OnlyShape, boxForbids, rowsForbid, ruleForbids};
+ghost use Rattle.sheet.specs.Layout.{lentOf, axes, rules, isNonOverlap, namesRow};
+ghost use Rattle.sheet.specs.Allowed.{forbidden};
+ghost use Rattle.sheet.specs.Accepted.{Block};
+ghost use Rattle.words.specs.Places.{RulePlace};
+ghost use Rattle.forbid.specs.Region.{Forbids, noRegion, Asked, rowsForbid, ruleForbids};
 use region::Area;
 use region::COORDINATES;
 use words::Place;
@@ -32,127 +32,7 @@ impl Region {
     }
 }
 
-// Whether box c of row j is one of shape t, and with box b forbids p to row i.
-fn box_forbids(
-    block: &[i64],
-    table: &[i64],
-    r: Place,
-    i: Place,
-    b: Place,
-    j: Place,
-    t: usize,
-    c: Place,
-    p: [i64; COORDINATES],
-) -> bool
-    requires { ⌜ PairPlaces (lentOf (now block)) (now table) r i b j c ⌝ }
-    ensures { λ x. ⌜ x ≡ boxForbids (lentOf (now (block .entry))) (now (table .entry))
-        (r .number) (i .number) (b .number) (j .number) t (c .number) p ⌝ }
-{
-    if words::box_is(block, c, t) {
-        return pair::pair_forbids(block, table, r, i, b, j, c, p);
-    }
-    false
-}
-
-// By some box of shape s and some box of shape t: one pair is enough.
-fn shapes_region(
-    block: &[i64],
-    table: &[i64],
-    r: Place,
-    i: Place,
-    s: usize,
-    j: Place,
-    t: usize,
-    p: [i64; COORDINATES],
-) -> Region
-    requires { ⌜ Asked (lentOf (now block)) (now table) i p × RulePlace (lentOf (now block)) r × RowPlace (lentOf (now block)) (now table) j ⌝ }
-    ensures { λ x. ⌜ Forbids (axes (lentOf (now (block .entry))))
-        (λ q. shapesForbid (lentOf (now (block .entry))) (now (table .entry)) (r .number) q (i .number) s (j .number) t) p x ⌝ }
-{
-    let n = words::boxes_of(block);
-    let mut found = Region::none();
-    let mut b = 0;
-    'pairs: while b < n {
-        let own = words::box_place(block, b);
-        if words::box_is(block, own, s) {
-            let mut c = 0;
-            while c < n {
-                let other = words::box_place(block, c);
-                if box_forbids(block, table, r, i, own, j, t, other, p) {
-                    found = Region {
-                        hit: true,
-                        area: pair::pair_area(block, table, r, i, own, j, other),
-                    };
-                    break 'pairs;
-                }
-                c += 1;
-            }
-        }
-        b += 1;
-    }
-    found
-}
-
-// The one shape of row j, or 0 where its set holds several.
-fn only_shape(block: &[i64], table: &[i64], j: Place) -> usize
-    requires { ⌜ Block (lentOf (now block)) × Table (lentOf (now block)) (now table) × RowPlace (lentOf (now block)) (now table) j ⌝ }
-    ensures { λ x. ⌜ OnlyShape (lentOf (now (block .entry))) (now (table .entry)) (j .number) x ⌝ }
-{
-    let set = words::shapes_of(block, table, j);
-    if u32::count_ones(set) == 1 {
-        return u32::trailing_zeros(set) as usize + 1;
-    }
-    0
-}
-
-// By row j's set, whatever row j is.
-fn set_region(
-    block: &[i64],
-    table: &[i64],
-    r: Place,
-    i: Place,
-    s: usize,
-    j: Place,
-    p: [i64; COORDINATES],
-) -> Region
-    requires { ⌜ Asked (lentOf (now block)) (now table) i p × RulePlace (lentOf (now block)) r × RowPlace (lentOf (now block)) (now table) j ⌝ }
-    ensures { λ x. ⌜ Forbids (axes (lentOf (now (block .entry))))
-        (λ q. setForbids (lentOf (now (block .entry))) (now (table .entry)) (r .number) q (i .number) s (j .number)) p x ⌝ }
-{
-    let t = only_shape(block, table, j);
-    if t == 0 {
-        return Region::none();
-    }
-    shapes_region(block, table, r, i, s, j, t, p)
-}
-
-// By row j, if it is another row than i and the rule names it.
-fn row_region(
-    block: &[i64],
-    table: &[i64],
-    r: Place,
-    i: Place,
-    s: usize,
-    j: usize,
-    p: [i64; COORDINATES],
-) -> Region
-    requires { ⌜ Asked (lentOf (now block)) (now table) i p × RulePlace (lentOf (now block)) r
-        × (1 ≤ j) × (j ≤ rows (lentOf (now block)) (now table)) ⌝ }
-    ensures { λ x. ⌜ Forbids (axes (lentOf (now (block .entry))))
-        (λ q. rowForbids (lentOf (now (block .entry))) (now (table .entry)) (r .number) q (i .number) s j) p x ⌝ }
-{
-    let own = i.number;
-    if own == j {
-        return Region::none();
-    }
-    if !words::names_row(block, r, j) {
-        return Region::none();
-    }
-    let other = words::row_place(block, table, j);
-    set_region(block, table, r, i, s, other, p)
-}
-
-// By some row.
+// What rule r forbids by some row.
 fn rows_region(
     block: &[i64],
     table: &[i64],
@@ -168,7 +48,7 @@ fn rows_region(
     let n = words::rows_of(block, table);
     let mut j = 0;
     while j < n {
-        let x = row_region(block, table, r, i, s, j + 1, p);
+        let x = row::row_region(block, table, r, i, s, j + 1, p);
         let hit = x.hit;
         if hit {
             return x;
@@ -190,7 +70,7 @@ fn is_non_overlap_of(block: &[i64], r: Place, i: usize) -> bool
     false
 }
 
-// By rule r.
+// What rule r forbids.
 fn rule_region(
     block: &[i64],
     table: &[i64],
@@ -236,6 +116,7 @@ pub fn forbidding_region(
     Region::none()
 }
 
+// The same without the area.
 pub fn is_forbidden(block: &[i64], table: &[i64], i: Place, s: usize, p: [i64; COORDINATES]) -> bool
     requires { ⌜ Asked (lentOf (now block)) (now table) i p ⌝ }
     ensures { λ x. ⌜ x ≡ forbidden (lentOf (now (block .entry))) (now (table .entry)) (i .number) s p ⌝ }

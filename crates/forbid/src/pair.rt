@@ -4,13 +4,22 @@ ghost use Prim.Native.Nat.{_<_};
 ghost use Rattle.integers.specs.Integer.{Within};
 ghost use Rattle.integers.specs.Words.{word};
 ghost use Rattle.sheet.specs.Layout.{lentOf, dims, axes};
-ghost use Rattle.sheet.specs.Allowed.{pairForbids};
 ghost use Rattle.sheet.specs.Accepted.{Block};
 ghost use Rattle.words.specs.Places.{BoxPlace};
 ghost use Rattle.region.specs.Area.{reach, Cuts, fieldArea};
-ghost use Rattle.forbid.specs.Pair.{PairPlaces, fromMax, toMin, Forbidden, sideForbids};
+ghost use Rattle.forbid.specs.Pair.{fromMax, toMin, PairPlaces, IsInterval, sideForbids, forbiddenBy};
 use region::Area;
+use region::COORDINATES;
 use words::Place;
+
+// Rule r, box b of row i and box c of row j: what c forbids to i by b.
+pub struct Pair {
+    pub r: Place,
+    pub i: Place,
+    pub b: Place,
+    pub j: Place,
+    pub c: Place,
+}
 
 // The numbers from a first to a last one; none where the first exceeds the last.
 pub struct Interval {
@@ -38,21 +47,14 @@ fn forbid_to(block: &[i64], b: Place, c: Place, d: usize, min: i64) -> i64
     min + words::offset_of(block, c, d) + words::size_of(block, c, d) + back - 1
 }
 
-// What rule r, by box c of row j, forbids to row i with box b in dimension d.
-fn interval_of(
-    block: &[i64],
-    table: &[i64],
-    r: Place,
-    i: Place,
-    b: Place,
-    j: Place,
-    c: Place,
-    d: usize,
-) -> Interval
-    requires { ⌜ PairPlaces (lentOf (now block)) (now table) r i b j c × (d < dims (lentOf (now block))) ⌝ }
-    ensures { λ x. ⌜ Forbidden (lentOf (now (block .entry))) (now (table .entry))
-        (r .number) (i .number) (b .number) (j .number) (c .number) d x ⌝ }
+// What the pair forbids in dimension d.
+fn interval_of(block: &[i64], table: &[i64], pair: Pair, d: usize) -> Interval
+    requires { ⌜ PairPlaces (lentOf (now block)) (now table) pair × (d < dims (lentOf (now block))) ⌝ }
+    ensures { λ x. ⌜ IsInterval (lentOf (now (block .entry))) (now (table .entry)) pair d x ⌝ }
 {
+    let b = pair.b;
+    let j = pair.j;
+    let c = pair.c;
     let min = words::low_of(block, table, j, d);
     let max = words::high_of(block, table, j, d);
     Interval {
@@ -62,47 +64,27 @@ fn interval_of(
 }
 
 // Whether the pair forbids x in dimension d, if the rule names d.
-fn side_forbids(
-    block: &[i64],
-    table: &[i64],
-    r: Place,
-    i: Place,
-    b: Place,
-    j: Place,
-    c: Place,
-    d: usize,
-    x: i64,
-) -> bool
-    requires { ⌜ PairPlaces (lentOf (now block)) (now table) r i b j c × (d < dims (lentOf (now block))) ⌝ }
-    ensures { λ y. ⌜ y ≡ sideForbids (lentOf (now (block .entry))) (now (table .entry))
-        (r .number) (i .number) (b .number) (j .number) (c .number) d x ⌝ }
+fn side_forbids(block: &[i64], table: &[i64], pair: Pair, d: usize, x: i64) -> bool
+    requires { ⌜ PairPlaces (lentOf (now block)) (now table) pair × (d < dims (lentOf (now block))) ⌝ }
+    ensures { λ y. ⌜ y ≡ sideForbids (lentOf (now (block .entry))) (now (table .entry)) pair d x ⌝ }
 {
+    let r = pair.r;
     if !words::names_dim(block, r, d) {
         return true;
     }
-    let interval = interval_of(block, table, r, i, b, j, c, d);
-    region::between(x, interval.from, interval.to)
+    let interval = interval_of(block, table, pair, d);
+    words::is_within(x, interval.from, interval.to)
 }
 
 // Whether the pair forbids p: in every dimension that the rule names, and no further than the first that clears it.
-pub fn pair_forbids(
-    block: &[i64],
-    table: &[i64],
-    r: Place,
-    i: Place,
-    b: Place,
-    j: Place,
-    c: Place,
-    p: [i64; region::COORDINATES],
-) -> bool
-    requires { ⌜ PairPlaces (lentOf (now block)) (now table) r i b j c ⌝ }
-    ensures { λ x. ⌜ x ≡ pairForbids (lentOf (now (block .entry))) (now (table .entry))
-        (r .number) p (i .number) (b .number) (j .number) (c .number) ⌝ }
+pub fn pair_forbids(block: &[i64], table: &[i64], pair: Pair, p: [i64; COORDINATES]) -> bool
+    requires { ⌜ PairPlaces (lentOf (now block)) (now table) pair ⌝ }
+    ensures { λ x. ⌜ x ≡ forbiddenBy (lentOf (now (block .entry))) (now (table .entry)) pair p ⌝ }
 {
     let k = words::dims_of(block);
     let mut d = 0;
     while d < k {
-        if !side_forbids(block, table, r, i, b, j, c, d, p[d]) {
+        if !side_forbids(block, table, pair, d, p[d]) {
             return false;
         }
         d += 1;
@@ -111,47 +93,30 @@ pub fn pair_forbids(
 }
 
 // Cut to the points that the pair forbids in dimension d, if the rule names d.
-fn cut_by_side(
-    area: Area,
-    block: &[i64],
-    table: &[i64],
-    r: Place,
-    i: Place,
-    b: Place,
-    j: Place,
-    c: Place,
-    d: usize,
-) -> Area
-    requires { ⌜ PairPlaces (lentOf (now block)) (now table) r i b j c × (d < dims (lentOf (now block))) ⌝ }
-    ensures { λ x. ⌜ Cuts (axes (lentOf (now (block .entry)))) area x (λ p. sideForbids (lentOf (now (block .entry))) (now (table .entry))
-        (r .number) (i .number) (b .number) (j .number) (c .number) d (word p d)) ⌝ }
+fn cut_by_side(area: Area, block: &[i64], table: &[i64], pair: Pair, d: usize) -> Area
+    requires { ⌜ PairPlaces (lentOf (now block)) (now table) pair × (d < dims (lentOf (now block))) ⌝ }
+    ensures { λ x. ⌜ Cuts (axes (lentOf (now (block .entry)))) area x
+        (λ p. sideForbids (lentOf (now (block .entry))) (now (table .entry)) pair d (word p d)) ⌝ }
 {
+    let r = pair.r;
     if !words::names_dim(block, r, d) {
         return area;
     }
-    let interval = interval_of(block, table, r, i, b, j, c, d);
+    let interval = interval_of(block, table, pair, d);
     area.within(d, interval.from, interval.to)
 }
 
 // The points that the pair forbids: its intervals in the named dimensions, the whole field in the others.
-pub fn pair_area(
-    block: &[i64],
-    table: &[i64],
-    r: Place,
-    i: Place,
-    b: Place,
-    j: Place,
-    c: Place,
-) -> Area
-    requires { ⌜ PairPlaces (lentOf (now block)) (now table) r i b j c ⌝ }
-    ensures { λ x. ⌜ Cuts (axes (lentOf (now (block .entry)))) fieldArea x (λ p. pairForbids (lentOf (now (block .entry))) (now (table .entry))
-        (r .number) p (i .number) (b .number) (j .number) (c .number)) ⌝ }
+pub fn pair_area(block: &[i64], table: &[i64], pair: Pair) -> Area
+    requires { ⌜ PairPlaces (lentOf (now block)) (now table) pair ⌝ }
+    ensures { λ x. ⌜ Cuts (axes (lentOf (now (block .entry)))) fieldArea x
+        (forbiddenBy (lentOf (now (block .entry))) (now (table .entry)) pair) ⌝ }
 {
     let k = words::dims_of(block);
     let mut area = Area::field();
     let mut d = 0;
     while d < k {
-        area = cut_by_side(area, block, table, r, i, b, j, c, d);
+        area = cut_by_side(area, block, table, pair, d);
         d += 1;
     }
     area

@@ -20,11 +20,13 @@ use Rattle.region.specs.Area.{coordinates, reach, inAt, inArea, Small, I
 
 module _ (k : ℕ) (a : Area) where
   -- ---- in an area, bound by bound
-  pub area-at : (p : List ℤ) → inArea k a p ≡ true → (d : ℕ) → d < k → (word (a .low) d ≤ℤ word p d) × (word p d ≤ℤ word (a .high) d)
+  pub area-at : (p : List ℤ) → inArea k a p ≡ true → (d : ℕ) → d < k
+      → (word (a .low) d ≤ℤ word p d) × (word p d ≤ℤ word (a .high) d)
   unfolding inArea inAt
   area-at p e d h = within-true (all-at _ e d h)
 
-  pub area-by : (p : List ℤ) → ((d : ℕ) → d < k → (word (a .low) d ≤ℤ word p d) × (word p d ≤ℤ word (a .high) d)) → inArea k a p ≡ true
+  pub area-by : (p : List ℤ) → ((d : ℕ) → d < k → (word (a .low) d ≤ℤ word p d) × (word p d ≤ℤ word (a .high) d))
+      → inArea k a p ≡ true
   unfolding inArea inAt
   area-by p h = at-all (λ d l. true-within (h d l .0) (h d l .1))
 
@@ -43,20 +45,13 @@ module _ (k : ℕ) (a : Area) where
   in-small {p} s e = record { near = λ d l. let w = area-at p e d l in within-between (s .lows d) (s .highs d) (w .0) (w .1) }
 
 -- ---- the field
-field-low : (d : ℕ) → d < coordinates → word (fieldArea .low) d ≡ minus reach
-unfolding fieldArea
-field-low d l = getD-replicate coordinates d (minus reach) (pos 0) l
-
-field-high : (d : ℕ) → d < coordinates → word (fieldArea .high) d ≡ pos reach
-unfolding fieldArea
-field-high d l = getD-replicate coordinates d (pos reach) (pos 0) l
-
 pub in-field : {k : ℕ} {p : List ℤ} → k ≤ coordinates → InField k p → inArea k fieldArea p ≡ true
+unfolding fieldArea
 in-field {k} {p} h f =
     area-by k fieldArea p (λ d l.
     let m : d < coordinates = omega arith in
     let w = from-within (f .near d l) in
-    (subst (λ (z : ℤ). z ≤ℤ word p d) (sym (field-low d m)) (w .0), subst (λ (z : ℤ). word p d ≤ℤ z) (sym (field-high d m)) (w .1)))
+    (rw (getD-replicate coordinates d (minus reach) (pos 0) m) (w .0), rw (getD-replicate coordinates d (pos reach) (pos 0) m) (w .1)))
 
 -- a word of an array that holds one word everywhere, and 0 past its end
 same-within : (m d : ℕ) {n : ℕ} {z : ℤ} → Within n z → Within n (word (replicate m z) d)

@@ -25,9 +25,9 @@ use Rattle.region.specs.Rooms.{roomFrom, roomTo, sideContained, CutBox}
 use Rattle.region.proofs.Areas.{in-field, small-field}
 use Rattle.region.proofs.Cut.{and-right}
 
--- p + t starts at low or past it and p + t + l ends at high or before it
-side : (low high t l p : ℤ) → (leZ low (p +ℤ t) && leZ (p +ℤ t +ℤ l) high) ≡ within (low -ℤ t) (high -ℤ t -ℤ l) p
-side low high t l p = both-ways _ _ out back
+-- a box at p + t of size l starts at low or past it and ends at high or before it
+side-within : (low high t l p : ℤ) → (leZ low (p +ℤ t) && leZ (p +ℤ t +ℤ l) high) ≡ within (low -ℤ t) (high -ℤ t -ℤ l) p
+side-within low high t l p = both-ways _ _ out back
   where
     out : (leZ low (p +ℤ t) && leZ (p +ℤ t +ℤ l) high) ≡ true → within (low -ℤ t) (high -ℤ t -ℤ l) p ≡ true
     out e =
@@ -45,7 +45,7 @@ module _ (lent : Lent) where
   unfolding boxContained sideContained roomFrom roomTo
   box-sides r b p =
       all-same (λ d l. ap (λ (x : Bool). namesDim lent r d ⇒ x)
-      (sym (side (roomLow lent r d) (roomHigh lent r d) (offset lent b d) (size lent b d) (word p d))))
+      (sym (side-within (roomLow lent r d) (roomHigh lent r d) (offset lent b d) (size lent b d) (word p d))))
 
   module _ (h : Head lent) {t : List ℤ} (g : Table lent t) {i : Place} (w : RowPlace lent t i) where
     -- a point of the row's ranges is in the field
@@ -57,10 +57,10 @@ module _ (lent : Lent) where
           (within-between (g .lows (i .number) d (w .from) (w .upto) l) (g .highs (i .number) d (w .from) (w .upto) l) (r .0) (r .1));
     }
 
-    pub cut-is : {s : ℕ} {a c : Area} → Cuts (axes lent) fieldArea a (inRanges lent t (i .number)) → Cuts (axes lent) a c (roomsHold lent (i .number) s)
-        → CutBox lent t (i .number) s c
+    pub cut-is : {s : ℕ} {a c : Area} → Cuts (axes lent) fieldArea a (inRanges lent t (i .number))
+        → Cuts (axes lent) a c (roomsHold lent (i .number) s) → CutBox lent t (i .number) s c
     cut-is {s} f g = record {
       is = λ p. g .is p ∙ ap (λ (x : Bool). x && roomsHold lent (i .number) s p)
-          (f .is p ∙ sym (and-right (inArea (axes lent) fieldArea p) (inRanges lent t (i .number) p) (λ e. in-field (h .few-axes) (ranges-field e))));
+          (f .is p ∙ sym (and-right (inArea (axes lent) fieldArea p) _ (λ e. in-field (h .few-axes) (ranges-field e))));
       small = g .small (f .small small-field);
     }

@@ -1,7 +1,7 @@
 -- Cuts of areas: they compose, a loop of cuts is a cut by all its tests, and the cut of one dimension. Assumes nothing.
 use mathlib.Core.Path.{_≡_, refl, sym, ap, ap₂, _∙_, subst}
 use mathlib.Core.Logic.{⊎-elim}
-use mathlib.Core.Bool.{Bool, true, false, cond, _&&_, and-assoc}
+use mathlib.Core.Bool.{Bool, true, false, cond, _&&_, and-assoc, and-comm}
 use mathlib.Core.List.{List}
 use Prim.Native.Nat.{ℕ, _+_, _<_}
 use lib.IntN.{ℤ, pos}
@@ -14,15 +14,16 @@ use Rattle.integers.specs.Words.{word}
 use Rattle.integers.proofs.Booleans.{both-ways, and-true, true-and, implies-in, implies-out}
 use Rattle.integers.proofs.Below.{same-or, all-at, at-all, all-zero, all-more}
 use Rattle.integers.proofs.Ints.{ints}
+use Rattle.integers.proofs.Machine.{within-by}
 use Rattle.region.specs.declared.Area.{Area}
-use Rattle.region.specs.Area.{reach, maxZ, minZ, inAt, inArea, Small, Cuts}
+use Rattle.region.specs.Area.{reach, maxZ, minZ, inAt, inArea, Cuts}
 
 -- ---- of two tests the one that implies the other is both
 pub and-left : (a b : Bool) → (a ≡ true → b ≡ true) → a ≡ (a && b)
 and-left a b f = both-ways a (a && b) (λ e. true-and e (f e)) (λ e. and-true {a = a} e .0)
 
 pub and-right : (a b : Bool) → (b ≡ true → a ≡ true) → b ≡ (a && b)
-and-right a b f = both-ways b (a && b) (λ e. true-and (f e) e) (λ e. and-true {a = a} e .1)
+and-right a b f = and-left b a f ∙ and-comm b a
 
 and-swap : (a b c d : Bool) → ((a && b) && (c && d)) ≡ ((a && c) && (b && d))
 and-swap a b c d = both-ways _ _ (turn a b c d) (turn a c b d)
@@ -83,17 +84,13 @@ le-min a b z = by (leZ a b) refl
     by true e = and-left (leZ z a) (leZ z b) (λ h. omega ints)
     by false e = and-right (leZ z a) (leZ z b) (λ h. omega ints)
 
--- one of two numbers
-either-within : {n : ℕ} {a b : ℤ} (t : Bool) → Within n a → Within n b → Within n (cond t a b)
-either-within true h k = h
-either-within false h k = k
-
 within-cut : (a b x y z : ℤ) → within (maxZ a x) (minZ b y) z ≡ (within a b z && within x y z)
 unfolding within
 within-cut a b x y z = ap₂ _&&_ (le-max a x z) (le-min b y z) ∙ and-swap (leZ a z) (leZ x z) (leZ z b) (leZ z y)
 
 -- a test of all that asks more at one place
-all-and : {k d : ℕ} (f g : ℕ → Bool) (x : Bool) → d < k → f d ≡ (g d && x) → ((e : ℕ) → (e ≡ d → ⊥) → f e ≡ g e) → allBelow k f ≡ (allBelow k g && x)
+all-and : {k d : ℕ} (f g : ℕ → Bool) (x : Bool) → d < k → f d ≡ (g d && x) → ((e : ℕ) → (e ≡ d → ⊥) → f e ≡ g e)
+    → allBelow k f ≡ (allBelow k g && x)
 all-and {k} {d} f g x l here there = both-ways _ _ out back
   where
     at-d : f d ≡ true → (g d ≡ true) × (x ≡ true)
@@ -107,45 +104,45 @@ all-and {k} {d} f g x l here there = both-ways _ _ out back
     back : (allBelow k g && x) ≡ true → allBelow k f ≡ true
     back t =
         let w : (allBelow k g ≡ true) × (x ≡ true) = and-true t in
-        at-all (λ e h. ⊎-elim (λ q. ap f q ∙ here ∙ true-and (all-at g (w .0) d l) (w .1)) (λ n. there e n ∙ all-at g (w .0) e h) (same-or e d))
+        at-all (λ e h. ⊎-elim
+        (λ q. ap f q ∙ here ∙ true-and (all-at g (w .0) d l) (w .1)) (λ n. there e n ∙ all-at g (w .0) e h) (same-or e d))
 
-module _ (a c : Area) {d : ℕ} (x y : ℤ) (hl : d < length (a .low)) (hh : d < length (a .high))
-    (el : c .low ≡ set (a .low) d (maxZ (word (a .low) d) x)) (eh : c .high ≡ set (a .high) d (minZ (word (a .high) d) y)) where
-  low-same : word (c .low) d ≡ maxZ (word (a .low) d) x
-  low-same = ap (λ (l : List ℤ). word l d) el ∙ getD-set-same (a .low) d _ (pos 0) hl
+-- bounds on words: of one of two, and of all in a run of which one is set
+either-within : {n : ℕ} {a b : ℤ} (t : Bool) → Within n a → Within n b → Within n (cond t a b)
+either-within true h k = h
+either-within false h k = k
 
-  high-same : word (c .high) d ≡ minZ (word (a .high) d) y
-  high-same = ap (λ (l : List ℤ). word l d) eh ∙ getD-set-same (a .high) d _ (pos 0) hh
+set-within : {n : ℕ} (l : List ℤ) (d : ℕ) {z : ℤ} → d < length l → Within n z → ((e : ℕ) → Within n (word l e))
+    → (e : ℕ) → Within n (word (set l d z) e)
+set-within {n} l d {z} h b f e =
+    ⊎-elim
+    (λ q. subst (λ (m : ℕ). Within n (word (set l d z) m)) (sym q) (within-by (getD-set-same l d z (pos 0) h) b))
+    (λ q. within-by (getD-set-other l d e z (pos 0) q) (f e))
+    (same-or e d)
 
-  low-other : (e : ℕ) → (e ≡ d → ⊥) → word (c .low) e ≡ word (a .low) e
-  low-other e n = ap (λ (l : List ℤ). word l e) el ∙ getD-set-other (a .low) d e _ (pos 0) n
+-- an area whose bounds in dimension d are set to the larger and to the lesser of the old and the new ones
+module _ (a : Area) (d : ℕ) (x y : ℤ) {low high : ℤ} (hl : d < length (a .low)) (hh : d < length (a .high))
+    (el : low ≡ maxZ (word (a .low) d) x) (eh : high ≡ minZ (word (a .high) d) y) where
+  abbrev cut : Area
+  cut = record { low = set (a .low) d low; high = set (a .high) d high }
 
-  high-other : (e : ℕ) → (e ≡ d → ⊥) → word (c .high) e ≡ word (a .high) e
-  high-other e n = ap (λ (l : List ℤ). word l e) eh ∙ getD-set-other (a .high) d e _ (pos 0) n
-
-  cut-same : (z : ℤ) → inAt c d z ≡ (inAt a d z && within x y z)
+  cut-here : (z : ℤ) → inAt cut d z ≡ (inAt a d z && within x y z)
   unfolding inAt
-  cut-same z = ap₂ (λ (l h : ℤ). within l h z) low-same high-same ∙ within-cut (word (a .low) d) (word (a .high) d) x y z
+  cut-here z =
+      ap₂ (λ (l h : ℤ). within l h z) (getD-set-same (a .low) d low (pos 0) hl ∙ el) (getD-set-same (a .high) d high (pos 0) hh ∙ eh)
+      ∙ within-cut (word (a .low) d) (word (a .high) d) x y z
 
-  cut-other : (z : ℤ) (e : ℕ) → (e ≡ d → ⊥) → inAt c e z ≡ inAt a e z
+  cut-there : (z : ℤ) (e : ℕ) → (e ≡ d → ⊥) → inAt cut e z ≡ inAt a e z
   unfolding inAt
-  cut-other z e n = ap₂ (λ (l h : ℤ). within l h z) (low-other e n) (high-other e n)
+  cut-there z e n = ap₂ (λ (l h : ℤ). within l h z) (getD-set-other (a .low) d e low (pos 0) n) (getD-set-other (a .high) d e high (pos 0) n)
 
-  cut-small : Within reach x → Within reach y → Small a → Small c
-  cut-small bx by s = record {
-    lows = λ e. ⊎-elim
-        (λ q. subst (λ (m : ℕ). Within reach (word (c .low) m)) (sym q) (subst (Within reach) (sym low-same) (either-within (leZ (word (a .low) d) x) bx (s .lows d))))
-        (λ n. subst (Within reach) (sym (low-other e n)) (s .lows e))
-        (same-or e d);
-    highs = λ e. ⊎-elim
-        (λ q. subst (λ (m : ℕ). Within reach (word (c .high) m)) (sym q) (subst (Within reach) (sym high-same) (either-within (leZ (word (a .high) d) y) (s .highs d) by)))
-        (λ n. subst (Within reach) (sym (high-other e n)) (s .highs e))
-        (same-or e d);
-  }
-
-  pub cuts-one : Within reach x → Within reach y → {k : ℕ} → d < k → Cuts k a c (λ p. within x y (word p d))
+  pub cuts-one : Within reach x → Within reach y → {k : ℕ} → d < k → Cuts k a cut (λ p. within x y (word p d))
   unfolding inArea
   cuts-one bx by l = record {
-    is = λ p. all-and (λ e. inAt c e (word p e)) (λ e. inAt a e (word p e)) (within x y (word p d)) l (cut-same (word p d)) (λ e n. cut-other (word p e) e n);
-    small = cut-small bx by;
+    is = λ p. all-and (λ e. inAt cut e (word p e)) (λ e. inAt a e (word p e)) (within x y (word p d)) l
+        (cut-here (word p d)) (λ e n. cut-there (word p e) e n);
+    small = λ s. record {
+      lows = set-within (a .low) d hl (within-by el (either-within (leZ (word (a .low) d) x) bx (s .lows d))) (s .lows);
+      highs = set-within (a .high) d hh (within-by eh (either-within (leZ (word (a .high) d) y) (s .highs d) by)) (s .highs);
+    };
   }

@@ -3,7 +3,6 @@ mod rooms;
 
 ghost use mathlib.Core.Path.{_≡_};
 ghost use Prim.Native.Nat.{ℕ, _<_, _≤_};
-ghost use lib.IntN.{ℤ};
 ghost use Rattle.integers.specs.Integer.{within, Within};
 ghost use Rattle.integers.specs.Words.{word};
 ghost use Rattle.sheet.specs.Layout.{lentOf, axes};
@@ -31,16 +30,6 @@ fn lesser(a: i64, b: i64) -> i64
     ensures { λ r. ⌜ r ≡ minZ a b ⌝ }
 {
     if a <= b { a } else { b }
-}
-
-// Whether x is from low to high.
-pub fn between(x: i64, low: i64, high: i64) -> bool
-    ensures { λ r. ⌜ r ≡ within low high x ⌝ }
-{
-    if x < low {
-        return false;
-    }
-    x <= high
 }
 
 // The points from low to high, both included, in each dimension.
@@ -78,7 +67,7 @@ impl Area {
     {
         let mut d = 0;
         while d < k {
-            if !between(p[d], self.low[d], self.high[d]) {
+            if !words::is_within(p[d], self.low[d], self.high[d]) {
                 return false;
             }
             d += 1;

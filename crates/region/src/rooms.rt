@@ -1,8 +1,7 @@
 // The room rules of a row, as cuts of an area. This is the one place that knows rules of kind 2.
 ghost use mathlib.Core.Path.{_≡_};
-ghost use mathlib.Core.Bool.{Bool, _&&_};
-ghost use Prim.Native.Nat.{ℕ, _<_, _≤_};
-ghost use lib.IntN.{ℤ};
+ghost use mathlib.Core.Bool.{_&&_};
+ghost use Prim.Native.Nat.{_<_, _≤_};
 ghost use Rattle.integers.specs.Integer.{Within};
 ghost use Rattle.sheet.specs.Layout.{lentOf, dims, axes, boxes, rules, isContainment, namesRow};
 ghost use Rattle.sheet.specs.Allowed.{boxContained, roomsHold};

@@ -16,7 +16,8 @@ use Rattle.forbid.proofs.rows_region.Statement.{statement}
 use Rattle.forbid.proofs.rows_region.Tie as tie
 
 abbrev Inv-loop : tie.InvT-loop
-Inv-loop block table r i s p n j₀ j = (j ≤ n) × (anyBelow j (λ m. rowForbids (lentOf block) table (r .number) p (i .number) s (suc m)) ≡ false)
+Inv-loop block table r i s p n j₀ j =
+    (j ≤ n) × (anyBelow j (λ m. rowForbids (lentOf block) table (r .number) p (i .number) s (suc m)) ≡ false)
 
 abbrev μ-loop : tie.MeasureT-loop
 μ-loop block table r i s p n j₀ j = n - j
@@ -40,7 +41,8 @@ returns : tie.Need-returns Inv-loop μ-loop
 returns c =
     let x = c .before in
     let n = x .before .before .before in
-    forbids-by (some-row _ _ _ _ _ _ (omega arith) (omega (arith, n .rows-of .ensures, x .before .loop-test .taken))) (c .if1 .taken) (x .row-region .ensures)
+    forbids-by (some-row _ _ _ _ _ _ (omega arith) (omega (arith, n .rows-of .ensures, x .before .loop-test .taken)))
+    (c .if1 .taken) (x .row-region .ensures)
 
 add-j : tie.Need-add-j Inv-loop μ-loop
 add-j c = omega arith

@@ -14,20 +14,21 @@ use Rattle.forbid.proofs.pair.cut_by_side.Tie as tie
 
 names-dim-requires : tie.Need-names-dim-requires
 names-dim-requires c κs =
-    let w = c .pre .0 in
-    (w .block .head, w .rule, w .block .dim-sets _ (w .rule .below), c .pre .1)
+    let s = c .before in
+    let w = s .pre .0 in
+    (w .block .head, w .rule, w .block .dim-sets _ (w .rule .below), s .pre .1)
 
 returns : tie.Need-returns
 unfolding sideForbids
 returns c = cuts-out _ (sym (c .before .names-dim .ensures) ∙ not-true (c .if1 .taken))
 
 interval-of-requires : tie.Need-interval-of-requires
-interval-of-requires c κs = c .before .before .pre
+interval-of-requires c κs = c .before .before .before .pre
 
 within-requires : tie.Need-within-requires
 within-requires c κs =
     let v = c .before .before in
-    let s = v .before .before .before in
+    let s = v .before .before .before .before in
     let f = v .interval-of .ensures in (
       omega (arith, s .pre .0 .block .head .few-dims, s .pre .1),
       within-by (near-back (f .from-within)) (f .from-within),
@@ -39,7 +40,7 @@ unfolding sideForbids
 returns-2 c =
     let v = c .before .before .before in
     let n = v .before .before in
-    let s = n .before in
+    let s = n .before .before in
     let f = v .interval-of .ensures in
     cuts-side (s .args .d) (sym (n .names-dim .ensures) ∙ not-false (v .before .if1 .left))
     (near-back (f .from-within) ∙ f .from) (near-back (f .to-within) ∙ f .to)

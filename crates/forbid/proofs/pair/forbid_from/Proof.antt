@@ -5,7 +5,7 @@ use Rattle.integers.specs.Integer.{Within}
 use Rattle.integers.proofs.Machine.{Expr, bnd, num, _+ʷ_, _-ʷ_, sum-fits, diff-fits, within-by}
 use Rattle.region.proofs.Sums.{sum-is}
 use Rattle.forbid.specs.Pair.{fromMax}
-use Rattle.forbid.proofs.Pairs.{negated, plus-lit}
+use Rattle.forbid.proofs.Pairs.{add-negated, add-literal-fits}
 use borrow.Author.Needs.{needs}
 use Rattle.forbid.proofs.pair.forbid_from.Statement.{statement}
 use Rattle.forbid.proofs.pair.forbid_from.Tie as tie
@@ -49,14 +49,14 @@ sub-result : tie.Need-sub-result
 sub-result c = diff-fits (moved (c .before)) (bnd (size-within c)) tt
 
 add-result-3 : tie.Need-add-result-3
-add-result-3 c = search (plus-lit (moved (c .before) -ʷ bnd (size-within c)))
+add-result-3 c = search (add-literal-fits (moved (c .before) -ʷ bnd (size-within c)))
 
 returns : tie.Need-returns
 unfolding fromMax
 returns c =
     sum-is (moved (c .before) -ʷ bnd (size-within c) +ʷ num 1) tt
     (ap₂ (λ (y z : ℤ). y -ℤ z +ℤ pos 1)
-    (negated (ap (λ (z : ℤ). c .before .before .before .args .max +ℤ z) (c .before .offset-of2 .ensures)) (c .before .before .offset-of .ensures))
+    (add-negated (ap (λ (z : ℤ). c .before .before .before .args .max +ℤ z) (c .before .offset-of2 .ensures)) (c .before .before .offset-of .ensures))
     (c .size-of .ensures))
 
 pub forbid-from-spec : {M : Type 1} → statement M

@@ -5,7 +5,7 @@ use Rattle.integers.specs.Integer.{Within}
 use Rattle.integers.proofs.Machine.{Expr, bnd, num, _+ʷ_, _-ʷ_, sum-fits, diff-fits, within-by}
 use Rattle.region.proofs.Sums.{sum-is}
 use Rattle.forbid.specs.Pair.{toMin}
-use Rattle.forbid.proofs.Pairs.{negated}
+use Rattle.forbid.proofs.Pairs.{add-negated}
 use borrow.Author.Needs.{needs}
 use Rattle.forbid.proofs.pair.forbid_to.Statement.{statement}
 use Rattle.forbid.proofs.pair.forbid_to.Tie as tie
@@ -61,7 +61,7 @@ unfolding toMin
 returns c =
     sum-is (moved c -ʷ num 1) tt
     (ap (λ (z : ℤ). z -ℤ pos 1)
-    (negated (ap₂ (λ (y z : ℤ). c .before .before .before .args .min +ℤ y +ℤ z) (c .before .offset-of2 .ensures) (c .size-of .ensures))
+    (add-negated (ap₂ (λ (y z : ℤ). c .before .before .before .args .min +ℤ y +ℤ z) (c .before .offset-of2 .ensures) (c .size-of .ensures))
     (c .before .before .offset-of .ensures)))
 
 pub forbid-to-spec : {M : Type 1} → statement M

@@ -15,19 +15,20 @@ use Rattle.forbid.proofs.pair.interval_of.Tie as tie
 
 low-of-requires : tie.Need-low-of-requires
 low-of-requires c κs =
-    let w = c .pre .0 in
-    (w .block .head, w .table .whole, w .other-row, axis (lentOf (now (c .args .block))) (c .pre .1))
+    let s = c .before .before .before in
+    let w = s .pre .0 in
+    (w .block .head, w .table .whole, w .other-row, axis (lentOf (now (s .args .block))) (s .pre .1))
 
 high-of-requires : tie.Need-high-of-requires
 high-of-requires c κs =
-    let s = c .before in
+    let s = c .before .before .before .before in
     let w = s .pre .0 in
     (w .block .head, w .table .whole, w .other-row, axis (lentOf (now (s .args .block))) (s .pre .1))
 
 -- the row's ends there
 module _ (c : tie.After-high-of) where
   abbrev s : tie.Start
-  s = c .before .before
+  s = c .before .before .before .before .before
 
   ends : Within 1000000 (toZ w64 (ofZ w64 (c .before .low-of .result))) × Within 1000000 (toZ w64 (ofZ w64 (c .high-of .result)))
   ends =
@@ -50,8 +51,12 @@ returns c =
     let f = c .before in
     let h = f .before in
     record {
-      from = bits-back (f .forbid-from .ok) ∙ f .forbid-from .ensures .0 ∙ ap (fromMax _ _ _ _) (bits-back (h .high-of .ok) ∙ h .high-of .ensures);
-      to = bits-back (c .forbid-to .ok) ∙ c .forbid-to .ensures .0 ∙ ap (toMin _ _ _ _) (bits-back (h .before .low-of .ok) ∙ h .before .low-of .ensures);
+      from =
+          bits-back (f .forbid-from .ok) ∙ f .forbid-from .ensures .0
+          ∙ ap (fromMax _ _ _ _) (bits-back (h .high-of .ok) ∙ h .high-of .ensures);
+      to =
+          bits-back (c .forbid-to .ok) ∙ c .forbid-to .ensures .0
+          ∙ ap (toMin _ _ _ _) (bits-back (h .before .low-of .ok) ∙ h .before .low-of .ensures);
       from-within = within-by (bits-back (f .forbid-from .ok)) (f .forbid-from .ensures .1);
       to-within = within-by (bits-back (c .forbid-to .ok)) (c .forbid-to .ensures .1);
     }

@@ -14,12 +14,11 @@ use Rattle.forbid.proofs.pair.pair_area.Statement.{statement}
 use Rattle.forbid.proofs.pair.pair_area.Tie as tie
 
 abbrev Inv-loop : tie.InvT-loop
-Inv-loop block table r i b j c k area₀ d₀ area d =
-    (d ≤ k) × Cuts (axes (lentOf block)) fieldArea area (λ p. allBelow d (λ e.
-    sideForbids (lentOf block) table (r .number) (i .number) (b .number) (j .number) (c .number) e (word p e)))
+Inv-loop block table pair k area₀ d₀ area d =
+    (d ≤ k) × Cuts (axes (lentOf block)) fieldArea area (λ p. allBelow d (λ e. sideForbids (lentOf block) table pair e (word p e)))
 
 abbrev μ-loop : tie.MeasureT-loop
-μ-loop block table r i b j c k area₀ d₀ area d = k - d
+μ-loop block table pair k area₀ d₀ area d = k - d
 
 dims-of-requires : tie.Need-dims-of-requires Inv-loop μ-loop
 dims-of-requires c κs = c .pre .block .head

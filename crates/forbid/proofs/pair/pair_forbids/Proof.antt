@@ -16,11 +16,10 @@ use Rattle.forbid.proofs.pair.pair_forbids.Statement.{statement}
 use Rattle.forbid.proofs.pair.pair_forbids.Tie as tie
 
 abbrev Inv-loop : tie.InvT-loop
-Inv-loop block table r i b j c p k d₀ d =
-    (d ≤ k) × (allBelow d (λ e. sideForbids (lentOf block) table (r .number) (i .number) (b .number) (j .number) (c .number) e (word p e)) ≡ true)
+Inv-loop block table pair p k d₀ d = (d ≤ k) × (allBelow d (λ e. sideForbids (lentOf block) table pair e (word p e)) ≡ true)
 
 abbrev μ-loop : tie.MeasureT-loop
-μ-loop block table r i b j c p k d₀ d = k - d
+μ-loop block table pair p k d₀ d = k - d
 
 below-dims : (c : tie.In-loop Inv-loop μ-loop) → c .before .loop .d < dims (lentOf (now (c .before .before .before .args .block)))
 below-dims c = omega (arith, c .before .before .dims-of .ensures, c .loop-test .taken)
@@ -49,12 +48,12 @@ module _ (c : tie.After-side-forbids Inv-loop μ-loop) where
 
   -- the test of one dimension
   abbrev test : ℕ → Bool
-  test e =
-      sideForbids (lentOf (now (s .args .block))) (now (s .args .table))
-      (s .args .r .number) (s .args .i .number) (s .args .b .number) (s .args .j .number) (s .args .c .number) e (word (s .args .t8) e)
+  test e = sideForbids (lentOf (now (s .args .block))) (now (s .args .table)) (s .args .pair) e (word (s .args .t4) e)
 
   tested : c .side-forbids .result ≡ test (l .loop .d)
-  tested = c .side-forbids .ensures ∙ ap (sideForbids _ _ _ _ _ _ _ _) (bits-back {z = word (s .args .t8) (l .loop .d)} (c .before .side-forbids-arg .given))
+  tested =
+      c .side-forbids .ensures
+      ∙ ap (sideForbids _ _ _ _) (bits-back {z = word (s .args .t4) (l .loop .d)} (c .before .side-forbids-arg .given))
 
 returns : tie.Need-returns Inv-loop μ-loop
 unfolding pairForbids sideForbids

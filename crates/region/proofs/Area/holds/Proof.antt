@@ -1,4 +1,4 @@
--- `Area::holds` meets its contract: so far every coordinate is between its bounds. Assumes nothing.
+-- `Area::holds` meets its contract: so far every coordinate is within its bounds. Assumes nothing.
 use mathlib.Core.Path.{_≡_, sym, _∙_}
 use mathlib.Core.Bool.{true}
 use Prim.Native.Nat.{_≤_, _-_}
@@ -21,28 +21,28 @@ loop-holds : tie.Need-loop-holds Inv-loop μ-loop
 unfolding inArea
 loop-holds c = (omega arith, all-zero _)
 
-mul-between : tie.Need-mul-between Inv-loop μ-loop
-mul-between c = omega arith
+mul-is-within : tie.Need-mul-is-within Inv-loop μ-loop
+mul-is-within c = omega arith
 
-array-copy-out-between : tie.Need-array-copy-out-between Inv-loop μ-loop
-array-copy-out-between c = omega arith
+array-copy-out-is-within : tie.Need-array-copy-out-is-within Inv-loop μ-loop
+array-copy-out-is-within c = omega arith
 
-mul-between-2 : tie.Need-mul-between-2 Inv-loop μ-loop
-mul-between-2 c = omega arith
+mul-is-within-2 : tie.Need-mul-is-within-2 Inv-loop μ-loop
+mul-is-within-2 c = omega arith
 
-element-copy-out-between : tie.Need-element-copy-out-between Inv-loop μ-loop
-element-copy-out-between c = omega arith
+element-copy-out-is-within : tie.Need-element-copy-out-is-within Inv-loop μ-loop
+element-copy-out-is-within c = omega arith
 
-mul-between-3 : tie.Need-mul-between-3 Inv-loop μ-loop
-mul-between-3 c = omega arith
+mul-is-within-3 : tie.Need-mul-is-within-3 Inv-loop μ-loop
+mul-is-within-3 c = omega arith
 
-element-copy-out-between-2 : tie.Need-element-copy-out-between-2 Inv-loop μ-loop
-element-copy-out-between-2 c = omega arith
+element-copy-out-is-within-2 : tie.Need-element-copy-out-is-within-2 Inv-loop μ-loop
+element-copy-out-is-within-2 c = omega arith
 
-between-requires : tie.Need-between-requires Inv-loop μ-loop
-between-requires c κs = tt
+is-within-requires : tie.Need-is-within-requires Inv-loop μ-loop
+is-within-requires c κs = tt
 
-module _ (c : tie.After-between Inv-loop μ-loop) where
+module _ (c : tie.After-is-within Inv-loop μ-loop) where
   abbrev l : tie.At-loop Inv-loop μ-loop
   l = c .before .before .before .before .before
 
@@ -50,14 +50,14 @@ module _ (c : tie.After-between Inv-loop μ-loop) where
   s = l .before
 
   -- the test of one coordinate
-  tested : c .between .result ≡ inAt (s .args .t1) (l .loop .d) (word (s .args .t3) (l .loop .d))
+  tested : c .is-within .result ≡ inAt (s .args .t1) (l .loop .d) (word (s .args .t3) (l .loop .d))
   unfolding inAt
   tested =
-      c .between .ensures
+      c .is-within .ensures
       ∙ rw (
-        bits-back {z = word (s .args .t3) (l .loop .d)} (c .before .before .before .between-arg .given),
-        bits-back {z = word (s .args .t1 .low) (l .loop .d)} (c .before .before .between-arg2 .given),
-        bits-back {z = word (s .args .t1 .high) (l .loop .d)} (c .before .between-arg3 .given),
+        bits-back {z = word (s .args .t3) (l .loop .d)} (c .before .before .before .is-within-arg .given),
+        bits-back {z = word (s .args .t1 .low) (l .loop .d)} (c .before .before .is-within-arg2 .given),
+        bits-back {z = word (s .args .t1 .high) (l .loop .d)} (c .before .is-within-arg3 .given),
       )
 
 returns : tie.Need-returns Inv-loop μ-loop
@@ -92,13 +92,13 @@ holds-spec =
     Inv-loop
     μ-loop
     loop-holds
-    mul-between
-    array-copy-out-between
-    mul-between-2
-    element-copy-out-between
-    mul-between-3
-    element-copy-out-between-2
-    between-requires
+    mul-is-within
+    array-copy-out-is-within
+    mul-is-within-2
+    element-copy-out-is-within
+    mul-is-within-3
+    element-copy-out-is-within-2
+    is-within-requires
     returns
     add-d
     loop-less

@@ -1,7 +1,7 @@
 -- `Area::within` meets its contract: in dimension d the low bound becomes the larger and the high bound the lesser of two. Assumes nothing.
-use mathlib.Core.Path.{_≡_, ap, ap₂, _∙_}
+use mathlib.Core.Path.{_≡_, ap₂, _∙_}
 use native.Mathlib.Omega.{arith}
-use lib.ListN.{length, set}
+use lib.ListN.{length}
 use mir.Facts.{toZ-ofZ}
 use Rattle.integers.specs.Words.{word}
 use Rattle.region.specs.Area.{maxZ, minZ}
@@ -47,12 +47,11 @@ returns c k h =
     let a = s .args in
     let hl : length (a .t1 .low) ≡ 4 = search needs in
     let hh : length (a .t1 .high) ≡ 4 = search needs in
-    cuts-one (a .t1) _ (a .low) (a .high) (omega arith) (omega arith)
-    (ap (set (a .t1 .low) (a .d))
+    cuts-one (a .t1) (a .d) (a .low) (a .high) (omega arith) (omega arith)
     (bits-back (c .before .before .larger .ok) ∙ c .before .before .larger .ensures
-    ∙ ap₂ maxZ (bits-back {z = word (a .t1 .low) (a .d)} (c .before .before .before .a .given)) (toZ-ofZ (s .fits .low))))
-    (ap (set (a .t1 .high) (a .d))
-    (bits-back (c .lesser .ok) ∙ c .lesser .ensures ∙ ap₂ minZ (bits-back {z = word (a .t1 .high) (a .d)} (c .before .b .given)) (toZ-ofZ (s .fits .high))))
+    ∙ ap₂ maxZ (bits-back {z = word (a .t1 .low) (a .d)} (c .before .before .before .a .given)) (toZ-ofZ (s .fits .low)))
+    (bits-back (c .lesser .ok) ∙ c .lesser .ensures
+    ∙ ap₂ minZ (bits-back {z = word (a .t1 .high) (a .d)} (c .before .b .given)) (toZ-ofZ (s .fits .high)))
     (s .pre .1) (s .pre .2) h
 
 pub within-spec : {M : Type 1} → statement M

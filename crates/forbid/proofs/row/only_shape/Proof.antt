@@ -1,10 +1,10 @@
--- `forbid::only_shape` meets its contract: a set with a single one holds one number, where its trailing zeros end. Assumes nothing.
+-- `row::only_shape` meets its contract: a set with a single one holds one number, where its trailing zeros end. Assumes nothing.
 use native.Mathlib.Omega.{arith}
 use lib.Count.{trailing-le}
 use Rattle.integers.proofs.Ints.{ints}
 use Rattle.forbid.proofs.Rows.{single-shape, several-shapes}
-use Rattle.forbid.proofs.only_shape.Statement.{statement}
-use Rattle.forbid.proofs.only_shape.Tie as tie
+use Rattle.forbid.proofs.row.only_shape.Statement.{statement}
+use Rattle.forbid.proofs.row.only_shape.Tie as tie
 
 shapes-of-requires : tie.Need-shapes-of-requires
 shapes-of-requires c κs =

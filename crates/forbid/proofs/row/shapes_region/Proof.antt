@@ -1,4 +1,4 @@
--- `forbid::shapes_region` meets its contract: so far no pair of boxes forbids the point, and the first that does is the region. Assumes nothing.
+-- `row::shapes_region` meets its contract: so far no pair of boxes forbids the point, and the first that does is the region. Assumes nothing.
 use mathlib.Core.Path.{_≡_, refl, sym, _∙_}
 use mathlib.Core.Logic.{⊎-elim}
 use mathlib.Core.Bool.{false}
@@ -12,27 +12,27 @@ use Rattle.sheet.specs.Layout.{lentOf, boxes}
 use Rattle.sheet.specs.Allowed.{shapesForbid}
 use Rattle.sheet.proofs.Forbidden.{shapes-by}
 use Rattle.forbid.specs.Pair.{PairPlaces}
-use Rattle.forbid.specs.Region.{noRegion, boxForbids}
+use Rattle.forbid.specs.Region.{noRegion}
 use Rattle.forbid.proofs.Regions.{cut-region, missed, forbids-by, none-more}
-use Rattle.forbid.proofs.Rows.{ownForbids, own-clear, other-shape}
-use Rattle.forbid.proofs.shapes_region.Statement.{statement}
-use Rattle.forbid.proofs.shapes_region.Tie as tie
+use Rattle.forbid.proofs.Rows.{boxForbids, ownForbids, passed-none, other-shape-none}
+use Rattle.forbid.proofs.row.shapes_region.Statement.{statement}
+use Rattle.forbid.proofs.row.shapes_region.Tie as tie
 
 abbrev Inv-loop : tie.InvT-loop
-Inv-loop block table r i s j t p n found₀ b own c₀ found c =
-    (c ≤ n) × (found ≡ found₀)
-    × (anyBelow c (λ m. boxForbids (lentOf block) table (r .number) (i .number) (own .number) (j .number) t m p) ≡ false)
+Inv-loop block table r i s j t p n found₀ own b other₀ found other =
+    (other ≤ n) × (found ≡ found₀)
+    × (anyBelow other (λ m. boxForbids (lentOf block) table (r .number) (i .number) (b .number) (j .number) t m p) ≡ false)
 
 abbrev μ-loop : tie.MeasureT-loop
-μ-loop block table r i s j t p n found₀ b own c₀ found c = n - c
+μ-loop block table r i s j t p n found₀ own b other₀ found other = n - other
 
 abbrev Inv-pairs : tie.InvT-pairs
-Inv-pairs block table r i s j t p n found₀ b₀ found b =
-    (b ≤ n) × (found ≡ noRegion)
-    × (anyBelow b (λ m. ownForbids (lentOf block) table (r .number) (i .number) s (j .number) t m p) ≡ false)
+Inv-pairs block table r i s j t p n found₀ own₀ found own =
+    (own ≤ n) × (found ≡ noRegion)
+    × (anyBelow own (λ m. ownForbids (lentOf block) table (r .number) (i .number) s (j .number) t m p) ≡ false)
 
 abbrev μ-pairs : tie.MeasureT-pairs
-μ-pairs block table r i s j t p n found₀ b₀ found b = n - b
+μ-pairs block table r i s j t p n found₀ own₀ found own = n - own
 
 boxes-of-requires : tie.Need-boxes-of-requires Inv-loop μ-loop Inv-pairs μ-pairs
 boxes-of-requires c κs = c .pre .0 .block .head
@@ -62,19 +62,20 @@ box-place-requires-2 c κs =
     (n .before .pre .0 .block .head, omega (arith, n .boxes-of .ensures, c .loop-test .taken))
 
 module _ (c : tie.After-box-place2 Inv-loop μ-loop Inv-pairs μ-pairs) where
-  abbrev own : tie.After-box-place Inv-loop μ-loop Inv-pairs μ-pairs
-  own = c .before .before .before .before .before
+  abbrev o : tie.After-box-place Inv-loop μ-loop Inv-pairs μ-pairs
+  o = c .before .before .before .before .before
 
   abbrev s : tie.Start Inv-loop μ-loop Inv-pairs μ-pairs
-  s = own .before .before .before .before .before
+  s = o .before .before .before .before .before
 
-  places : PairPlaces (lentOf (now (s .args .block))) (now (s .args .table)) (s .args .r) (s .args .i) (own .box-place .result) (s .args .j) (c .box-place2 .result)
+  places : PairPlaces (lentOf (now (s .args .block))) (now (s .args .table))
+      (record { r = s .args .r; i = s .args .i; b = o .box-place .result; j = s .args .j; c = c .box-place2 .result })
   places = record {
     block = s .pre .0 .block;
     table = s .pre .0 .table;
     rule = s .pre .1;
     row = s .pre .0 .row;
-    own = own .box-place .ensures .0;
+    own = o .box-place .ensures .0;
     other-row = s .pre .2;
     other = c .box-place2 .ensures .0;
   }
@@ -85,8 +86,8 @@ box-forbids-requires c κs = places c
 pair-area-requires : tie.Need-pair-area-requires Inv-loop μ-loop Inv-pairs μ-pairs
 pair-area-requires c κs = places (c .before .before)
 
-add-c : tie.Need-add-c Inv-loop μ-loop Inv-pairs μ-pairs
-add-c c = omega arith
+add-other : tie.Need-add-other Inv-loop μ-loop Inv-pairs μ-pairs
+add-other c = omega arith
 
 loop-less : tie.Need-loop-less Inv-loop μ-loop Inv-pairs μ-pairs
 loop-less c = omega arith
@@ -100,8 +101,8 @@ loop-again c =
       none-more _ (l .loop .inv .2) (rw (← b .box-place2 .ensures .1) (sym (c .before .box-forbids .ensures) ∙ c .if2 .left)),
     )
 
-add-b : tie.Need-add-b Inv-loop μ-loop Inv-pairs μ-pairs
-add-b c = omega arith
+add-own : tie.Need-add-own Inv-loop μ-loop Inv-pairs μ-pairs
+add-own c = omega arith
 
 pairs-less : tie.Need-pairs-less Inv-loop μ-loop Inv-pairs μ-pairs
 pairs-less c = omega arith
@@ -117,28 +118,27 @@ pairs-again c =
       ⊎-elim (λ w. w .3 ∙ w .1 .inv .1 ∙ l .pairs .inv .1) (λ w. w .1 ∙ l .pairs .inv .1) (c .if1 .came),
       none-more _ (l .pairs .inv .2)
           (⊎-elim
-          (λ w. own-clear _ _ _ _ (a .s) _ (a .t) _ e (omega (arith, w .1 .inv .0, w .2 .left, n .boxes-of .ensures)) (w .1 .inv .2))
-          (λ w. other-shape _ _ _ _ (a .s) _ (a .t) _ e (sym (c .before .box-is .ensures) ∙ w .0 .left))
+          (λ w. passed-none _ _ _ _ (a .s) _ (a .t) _ e (omega (arith, w .1 .inv .0, w .2 .left, n .boxes-of .ensures)) (w .1 .inv .2))
+          (λ w. other-shape-none _ _ _ _ (a .s) _ (a .t) _ e (sym (c .before .box-is .ensures) ∙ w .0 .left))
           (c .if1 .came)),
     )
 
 returns : tie.Need-returns Inv-loop μ-loop Inv-pairs μ-pairs
-unfolding shapesForbid boxForbids
+unfolding shapesForbid
 returns c =
     let l = c .before in
     let n = l .before .before in
-    let q : l .pairs .b ≡ boxes (lentOf (now (n .before .args .block))) = omega (arith, n .boxes-of .ensures, c .pairs-test .left) in
+    let q : l .pairs .own ≡ boxes (lentOf (now (n .before .args .block))) = omega (arith, n .boxes-of .ensures, c .pairs-test .left) in
     missed (rw q at (l .pairs .inv .2)) (l .pairs .inv .1)
 
 returns-2 : tie.Need-returns-2 Inv-loop μ-loop Inv-pairs μ-pairs
-unfolding boxForbids
 returns-2 c =
     let f = c .before .before in
     let b = f .before in
     let w = s b .pre .0 in
     let h = and-true (sym (f .box-forbids .ensures) ∙ c .before .if2 .taken) in
     forbids-by (λ q e. shapes-by _ _ _ _ _ _ _ q (record {
-      own = own b .box-place .result .number;
+      own = o b .box-place .result .number;
       other = b .box-place2 .result .number;
       own-below = places b .own .below;
       other-below = places b .other .below;
@@ -165,10 +165,10 @@ shapes-region-spec =
     box-place-requires-2
     box-forbids-requires
     pair-area-requires
-    add-c
+    add-other
     loop-less
     loop-again
-    add-b
+    add-own
     pairs-less
     pairs-again
     returns

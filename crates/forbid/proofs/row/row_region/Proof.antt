@@ -1,17 +1,17 @@
--- `forbid::row_region` meets its contract: the row itself and a row that is not named forbid nothing. Assumes nothing.
+-- `row::row_region` meets its contract: the row itself and a row that is not named forbid nothing. Assumes nothing.
 use mathlib.Core.Path.{sym, _∙_}
 use native.Mathlib.Omega.{arith}
 use Rattle.integers.proofs.Booleans.{not-true, not-false}
 use Rattle.forbid.proofs.Regions.{missed, forbids-same}
-use Rattle.forbid.proofs.Rows.{own-row, unnamed-row, named-row}
-use Rattle.forbid.proofs.row_region.Statement.{statement}
-use Rattle.forbid.proofs.row_region.Tie as tie
+use Rattle.forbid.proofs.Rows.{itself-none, unnamed-none, named-set}
+use Rattle.forbid.proofs.row.row_region.Statement.{statement}
+use Rattle.forbid.proofs.row.row_region.Tie as tie
 
 none-requires : tie.Need-none-requires
 none-requires c κs = tt
 
 returns : tie.Need-returns
-returns c = missed (own-row _ _ _ _ _ _ (c .before .if1 .taken) _) (c .none .ensures)
+returns c = missed (itself-none _ _ _ _ _ _ (c .before .if1 .taken) _) (c .none .ensures)
 
 names-row-requires : tie.Need-names-row-requires
 names-row-requires c κs =
@@ -25,7 +25,7 @@ none-requires-2 c κs = tt
 returns-2 : tie.Need-returns-2
 returns-2 c =
     let n = c .before .before in
-    missed (unnamed-row _ _ _ _ _ _ (n .before .if1 .left) (sym (n .names-row .ensures) ∙ not-true (c .before .if2 .taken)) _) (c .none2 .ensures)
+    missed (unnamed-none _ _ _ _ _ _ (n .before .if1 .left) (sym (n .names-row .ensures) ∙ not-true (c .before .if2 .taken)) _) (c .none2 .ensures)
 
 row-place-requires : tie.Need-row-place-requires
 row-place-requires c κs =
@@ -38,7 +38,7 @@ set-region-requires c κs = let s = c .before .before .before .before in (s .pre
 returns-3 : tie.Need-returns-3
 returns-3 c =
     let n = c .before .before .before in
-    forbids-same (named-row _ _ _ _ _ _ (n .before .if1 .left) (sym (n .names-row .ensures) ∙ not-false (c .before .before .if2 .left)))
+    forbids-same (named-set _ _ _ _ _ _ (n .before .if1 .left) (sym (n .names-row .ensures) ∙ not-false (c .before .before .if2 .left)))
     (rw (c .before .row-place .ensures .1) at (c .set-region .ensures))
 
 pub row-region-spec : {M : Type 1} → statement M

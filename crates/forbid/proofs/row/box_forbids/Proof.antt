@@ -1,21 +1,18 @@
--- `forbid::box_forbids` meets its contract: the pair is tested for a box of the shape alone. Assumes nothing.
+-- `row::box_forbids` meets its contract: the pair is tested for a box of the shape alone. Assumes nothing.
 use mathlib.Core.Path.{sym, _∙_}
-use Rattle.forbid.specs.Region.{boxForbids}
-use Rattle.forbid.proofs.box_forbids.Statement.{statement}
-use Rattle.forbid.proofs.box_forbids.Tie as tie
+use Rattle.forbid.proofs.row.box_forbids.Statement.{statement}
+use Rattle.forbid.proofs.row.box_forbids.Tie as tie
 
 box-is-requires : tie.Need-box-is-requires
-box-is-requires c κs = (c .pre .block .head, c .pre .other, c .pre .block .shapes _ (c .pre .other .below))
+box-is-requires c κs = let w = c .before .pre in (w .block .head, w .other, w .block .shapes _ (w .other .below))
 
 pair-forbids-requires : tie.Need-pair-forbids-requires
-pair-forbids-requires c κs = c .before .before .pre
+pair-forbids-requires c κs = c .before .before .before .pre
 
 returns : tie.Need-returns
-unfolding boxForbids
 returns c = rw (sym (c .before .before .box-is .ensures) ∙ c .before .if1 .taken) (c .pair-forbids .ensures)
 
 returns-2 : tie.Need-returns-2
-unfolding boxForbids
 returns-2 c = rw (sym (c .before .box-is .ensures) ∙ c .if1 .left)
 
 pub box-forbids-spec : {M : Type 1} → statement M

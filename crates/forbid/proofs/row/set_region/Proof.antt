@@ -1,8 +1,8 @@
--- `forbid::set_region` meets its contract: a set of several shapes forbids nothing, and another what its one shape does. Assumes nothing.
+-- `row::set_region` meets its contract: a set of several shapes forbids nothing, and another what its one shape does. Assumes nothing.
 use Rattle.forbid.proofs.Regions.{missed, forbids-same}
-use Rattle.forbid.proofs.Rows.{several-none, one-set}
-use Rattle.forbid.proofs.set_region.Statement.{statement}
-use Rattle.forbid.proofs.set_region.Tie as tie
+use Rattle.forbid.proofs.Rows.{several-none, single-set}
+use Rattle.forbid.proofs.row.set_region.Statement.{statement}
+use Rattle.forbid.proofs.row.set_region.Tie as tie
 
 only-shape-requires : tie.Need-only-shape-requires
 only-shape-requires c κs = (c .pre .0 .block, c .pre .0 .table, c .pre .2)
@@ -17,7 +17,7 @@ shapes-region-requires : tie.Need-shapes-region-requires
 shapes-region-requires c κs = c .before .before .pre
 
 returns-2 : tie.Need-returns-2
-returns-2 c = forbids-same (one-set _ _ _ _ _ _ (c .before .before .only-shape .ensures) (c .before .if1 .left)) (c .shapes-region .ensures)
+returns-2 c = forbids-same (single-set _ _ _ _ _ _ (c .before .before .only-shape .ensures) (c .before .if1 .left)) (c .shapes-region .ensures)
 
 pub set-region-spec : {M : Type 1} → statement M
 set-region-spec = tie.close (tie.spec only-shape-requires none-requires returns shapes-region-requires returns-2)

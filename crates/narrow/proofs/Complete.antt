@@ -1,0 +1,125 @@
+-- Every shape taken in: the ends are those of the narrowed row, and the set is that of the shapes with a point, so the row's words are
+-- the ones that `narrowOf` writes (`narrow-some`); with no shape left there is no place (`narrow-none`). Assumes nothing.
+use mathlib.Core.Path.{_≡_, refl, sym, ap, ap₂, _∙_, subst}
+use mathlib.Core.Logic.{⊎-elim}
+use mathlib.Core.Bool.{Bool, true, false, cond}
+use mathlib.Core.List.{List, [], _∷_, _++_}
+use mathlib.Core.Option.{none, some}
+use Prim.Native.Nat.{ℕ, zero, suc, _≤_, _<_}
+use native.Mathlib.Omega.{arith}
+use lib.IntN.{ℤ, pos}
+use Rattle.integers.specs.Below.{valueOr}
+use Rattle.integers.specs.Bits.{setOf}
+use Rattle.integers.specs.Words.{word, pairsBelow, replaced}
+use Rattle.integers.proofs.Booleans.{and-true, true-and}
+use Rattle.integers.proofs.Sets.{living-set, setOf-holds, holds-setOf, set-ge-1, small-set, member-ge-1}
+use Rattle.integers.proofs.Ints.{ints}
+use Rattle.sheet.specs.Layout.{Lent, axes, rowAt, rows, shapeSet, low, high, hasShape}
+use Rattle.sheet.specs.Allowed.{inRanges, allowed}
+use Rattle.sheet.specs.Bounds.{there, leastBy, greatestBy}
+use Rattle.sheet.specs.Narrow.{Stands, Reached, noPlace, rowAllowed, keepsShape, narrowLow, narrowHigh, narrowRow, narrowOf}
+use Rattle.sheet.specs.Accepted.{Table}
+use Rattle.sheet.proofs.Forbidden.{allowed-parts}
+use Rattle.sheet.proofs.Coordinates.{allowed-agree, row-allowed-agree}
+use Rattle.sheet.proofs.Points.{found, met}
+use Rattle.sheet.proofs.Extremes.{least-by, greatest-by, least-unique, greatest-unique}
+use Rattle.sheet.proofs.Narrows.{row-allowed-by, row-allowed-parts}
+use Rattle.sheet.proofs.NarrowsOnce.{narrow-is}
+use Rattle.narrow.specs.Ends.{StandsTo, End}
+
+module _ (lent : Lent) (t : List ℤ) (table : Table lent t) (i : ℕ) (from : 1 ≤ i) (upto : i ≤ rows lent t) where
+  -- a point of the row is one of its shapes up to 32
+  few : (s : ℕ) → hasShape lent t i s ≡ true → s ≤ 32
+  unfolding hasShape
+  few s e = small-set {n = 32} (table .sets-upto i from upto) e
+
+  to-32 : (p : List ℤ) → Stands lent t i p → StandsTo lent t i 32 p
+  to-32 p st = record { shape = st .shape; upto = few (st .shape) (st .held); held = st .held; stands = st .stands }
+
+  ranged : (p : List ℤ) → rowAllowed lent t i p ≡ true → inRanges lent t i p ≡ true
+  ranged p e = let w = row-allowed-parts lent t table i from upto p e in allowed-parts lent t i (w .shape) p (w .stands) .0
+
+  abbrev row-test : List ℤ → Bool
+  row-test = rowAllowed lent t i
+
+  reached-end : {flip : Bool} {d : ℕ} {z : ℤ} → End lent t i flip 32 d z → (p : List ℤ) → Stands lent t i p → Reached lent t i d z
+  reached-end x p st = ⊎-elim (λ r. r) (λ u. absurd (u .1 p (to-32 p st))) (x .reached)
+
+  module _ (p : List ℤ) (st : Stands lent t i p) (d : ℕ) (hd : d < axes lent) (z : ℤ) where
+    low-is : End lent t i false 32 d z → narrowLow lent t i d ≡ z
+    unfolding narrowLow valueOr
+    low-is x =
+        let r = reached-end x p st in
+        ap (valueOr (low lent t i d))
+        (least-unique (leastBy lent t i row-test d) (some z)
+        (least-by lent t i row-test (λ p q h. row-allowed-agree lent t p q h i) ranged d hd)
+        (there (r .point) (row-allowed-by lent t table i from upto (r .point) (r .by)) (r .there)
+        (λ q e. x .ahead q (to-32 q (row-allowed-parts lent t table i from upto q e)))))
+
+    high-is : End lent t i true 32 d z → narrowHigh lent t i d ≡ z
+    unfolding narrowHigh valueOr
+    high-is x =
+        let r = reached-end x p st in
+        ap (valueOr (high lent t i d))
+        (greatest-unique (greatestBy lent t i row-test d) (some z)
+        (greatest-by lent t i row-test (λ p q h. row-allowed-agree lent t p q h i) ranged d hd)
+        (there (r .point) (row-allowed-by lent t table i from upto (r .point) (r .by)) (r .there)
+        (λ q e. x .ahead q (to-32 q (row-allowed-parts lent t table i from upto q e)))))
+
+  -- ---- the set
+  kept-stands : (s : ℕ) → keepsShape lent t i s ≡ true → (p : List ℤ) × Stands lent t i p
+  unfolding keepsShape
+  kept-stands s e =
+      let w = and-true {a = hasShape lent t i s} e in
+      let q = found lent t i (allowed lent t i s) (w .1) in
+      (q .0, record { shape = s; held = w .0; stands = q .1 })
+
+  stands-kept : (p : List ℤ) (st : Stands lent t i p) → keepsShape lent t i (st .shape) ≡ true
+  unfolding keepsShape
+  stands-kept p st =
+      true-and (st .held)
+      (met lent t i (allowed lent t i (st .shape)) (λ p q h. allowed-agree lent t p q h i (st .shape)) p
+      (allowed-parts lent t i (st .shape) p (st .stands) .0) (st .stands))
+
+  some-place : 1 ≤ setOf 32 (keepsShape lent t i) → (p : List ℤ) × Stands lent t i p
+  some-place h =
+      let s = living-set {z = pos (setOf 32 (keepsShape lent t i))} (omega ints) in
+      kept-stands (s .0) (setOf-holds 32 (keepsShape lent t i) (s .0) (s .1) .1)
+
+  pub narrow-none : setOf 32 (keepsShape lent t i) ≡ 0 → narrowOf lent t i ≡ none
+  unfolding hasShape
+  narrow-none e =
+      narrow-is lent t i from table upto none (noPlace (λ p st.
+      let h = holds-setOf 32 (keepsShape lent t i) (st .shape) (member-ge-1 (shapeSet lent t i) (st .held)) (few (st .shape) (st .held)) ∙ stands-kept p st in
+      let g = set-ge-1 (pos (setOf 32 (keepsShape lent t i))) (st .shape) h in
+      omega ints))
+
+  -- ---- the words
+  pairs-same : (n : ℕ) (f g f' g' : ℕ → ℤ) → ((d : ℕ) → d < n → (f d ≡ f' d) × (g d ≡ g' d)) → pairsBelow n f g ≡ pairsBelow n f' g'
+  unfolding pairsBelow
+  pairs-same zero f g f' g' h = refl
+  pairs-same (suc n) f g f' g' h =
+      ap₂ (λ (xs ys : List ℤ). xs ++ ys) (pairs-same n f g f' g' (λ d l. h d (omega arith)))
+      (ap₂ (λ (x y : ℤ). x ∷ y ∷ []) (h n (omega arith) .0) (h n (omega arith) .1))
+
+  module _ (set : ℕ) (lows highs : List ℤ) (is : set ≡ setOf 32 (keepsShape lent t i)) (left : 1 ≤ set)
+      (low-ends : (d : ℕ) → d < axes lent → End lent t i false 32 d (word lows d))
+      (high-ends : (d : ℕ) → d < axes lent → End lent t i true 32 d (word highs d)) where
+    abbrev row-words : List ℤ
+    row-words = pos set ∷ pairsBelow (axes lent) (λ d. word lows d) (λ d. word highs d)
+
+    words-are : (p : List ℤ) → Stands lent t i p → narrowRow lent t i ≡ row-words
+    unfolding narrowRow
+    words-are p st =
+        ap₂ (λ (n : ℕ) (xs : List ℤ). pos n ∷ xs) (sym is)
+        (pairs-same (axes lent) (narrowLow lent t i) (narrowHigh lent t i) (λ d. word lows d) (λ d. word highs d)
+        (λ d l. (low-is p st d l (word lows d) (low-ends d l), high-is p st d l (word highs d) (high-ends d l))))
+
+    pub narrow-some : narrowOf lent t i ≡ some (replaced t (rowAt lent i) row-words)
+    unfolding narrowOf
+    narrow-some =
+        let q = some-place (subst (λ (n : ℕ). 1 ≤ n) is left) in
+        let e = met lent t i row-test (λ p q h. row-allowed-agree lent t p q h i) (q .0)
+        (ranged (q .0) (row-allowed-by lent t table i from upto (q .0) (q .1))) (row-allowed-by lent t table i from upto (q .0) (q .1)) in
+        ap (λ (b : Bool). cond b (some (replaced t (rowAt lent i) (narrowRow lent t i))) none) e
+        ∙ ap (λ (ws : List ℤ). some (replaced t (rowAt lent i) ws)) (words-are (q .0) (q .1))

@@ -1,0 +1,6 @@
+pub mod Shapes
+pub mod Complete
+pub mod Widens
+pub mod Hulls
+pub mod Writes
+pub mod Answers

@@ -1,0 +1,78 @@
+-- `narrow_row` meets its contract: the hull of every shape says what is written. Assumes nothing.
+use mathlib.Core.Path.{_≡_, sym, _∙_}
+use mathlib.Core.List.{_∷_}
+use mathlib.Core.Option.{some}
+use native.Mathlib.Omega.{arith}
+use denote.Ref.{now}
+use lib.IntN.{pos}
+use Rattle.integers.specs.Words.{word, pairsBelow, replaced}
+use Rattle.integers.proofs.Booleans.{not-true, not-false}
+use Rattle.sheet.specs.Layout.{lentOf, axes, rowAt}
+use Rattle.sheet.specs.Narrow.{narrowOf}
+use Rattle.narrow.proofs.Complete.{narrow-none, narrow-some}
+use Rattle.narrow.proofs.Answers.{step-none, step-some}
+use borrow.Author.Needs.{needs}
+use Rattle.narrow.proofs.narrow_row.Statement.{statement}
+use Rattle.narrow.proofs.narrow_row.Tie as tie
+
+row-hull-requires : tie.Need-row-hull-requires
+row-hull-requires c κs = search needs
+
+same-length : tie.Need-same-length
+same-length c = search needs
+
+returns : tie.Need-returns
+returns c =
+    let h = c .before in
+    let s = h .before .before in
+    step-none (now (s .args .table))
+    (narrow-none (lentOf (now (s .args .block))) (now (s .args .table)) (s .pre .1) (s .args .i .number) (s .pre .2 .from) (s .pre .2 .upto)
+    (sym (h .row-hull .ensures .kept) ∙ c .if1 .taken))
+
+write-row-requires : tie.Need-write-row-requires
+write-row-requires c κs = search needs
+
+same-length-2 : tie.Need-same-length-2
+same-length-2 c = search needs
+
+-- the words that are written are those of the narrowed row
+narrowed : (c : tie.After-write-row) → let h = c .before .before .before .before .before in let s = h .before .before in let x = h .row-hull .result in
+    narrowOf (lentOf (now (s .args .block))) (now (s .args .table)) (s .args .i .number)
+    ≡ some (replaced (now (s .args .table)) (rowAt (lentOf (now (s .args .block))) (s .args .i .number))
+    (pos (x .shapes) ∷ pairsBelow (axes (lentOf (now (s .args .block)))) (word (x .low)) (word (x .high))))
+narrowed c =
+    let b = c .before .before .before .before in
+    let h = b .before in
+    let s = h .before .before in
+    let x = h .row-hull .result in
+    let w = h .row-hull .ensures in
+    narrow-some (lentOf (now (s .args .block))) (now (s .args .table)) (s .pre .1) (s .args .i .number) (s .pre .2 .from) (s .pre .2 .upto)
+    (x .shapes) (x .low) (x .high) (w .kept) (omega (arith, b .if1 .left)) (w .lows) (w .highs)
+
+returns-2 : tie.Need-returns-2
+returns-2 c =
+    let w = c .before .before in
+    step-some (now (w .before .before .before .before .before .before .before .args .table)) (narrowed w) (w .write-row .ensures .0)
+    (not-true (sym (w .write-row .ensures .1) ∙ c .if2 .taken))
+
+same-length-3 : tie.Need-same-length-3
+same-length-3 c = search needs
+
+returns-3 : tie.Need-returns-3
+returns-3 c =
+    let w = c .before .before in
+    step-some (now (w .before .before .before .before .before .before .before .args .table)) (narrowed w) (w .write-row .ensures .0)
+    (not-false (sym (w .write-row .ensures .1) ∙ c .if2 .left))
+
+pub narrow-row-spec : {M : Type 1} → statement M
+narrow-row-spec =
+    tie.close
+    (tie.spec
+    row-hull-requires
+    same-length
+    returns
+    write-row-requires
+    same-length-2
+    returns-2
+    same-length-3
+    returns-3)

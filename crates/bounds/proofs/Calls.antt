@@ -1,26 +1,23 @@
 -- A call that is given a row, a shape and a dimension: what its checks leave (`Asked`), and its answers by case. Assumes nothing.
-use mathlib.Core.Path.{_≡_, refl, sym, ap, _∙_}
-use mathlib.Core.Bool.{Bool, true, false}
+use mathlib.Core.Path.{_≡_, refl}
+use mathlib.Core.Bool.{false}
 use mathlib.Core.List.{List}
-use mathlib.Core.Option.{Option, none, some}
-use Prim.Native.Nat.{ℕ, zero, suc, _≤_, _<_}
+use mathlib.Core.Option.{Option}
+use Prim.Native.Nat.{ℕ, zero, suc, _<_}
 use native.Mathlib.Nat.{not-suc-le-zero}
-use native.Mathlib.Omega.{arith}
 use lib.IntN.{ℤ, pos}
-use lib.Signed.{_≤ℤ_, leZ, ltZ}
+use lib.Signed.{leZ}
 use Rattle.integers.specs.Integer.{nat}
 use Rattle.integers.proofs.Booleans.{not-false, and-true}
 use Rattle.integers.proofs.Ints.{ints, disjoint}
 use Rattle.integers.proofs.Sets.{member-ge-1, small-set}
-use Rattle.sheet.specs.Layout.{Lent, axes, rows, shapeSet, hasShape}
+use Rattle.sheet.specs.Layout.{Lent, axes, shapeSet, hasShape}
 use Rattle.sheet.specs.Refusal.{_when_, noSuchShape, noSuchDim, refusal, refusalRow, refusalShape, refusalDim}
-use Rattle.sheet.specs.Accepted.{Count, Head, Table}
+use Rattle.sheet.specs.Accepted.{Count}
 use Rattle.sheet.specs.Answer.{boundAnswer}
-use Rattle.sheet.specs.declared.Bound.{Bound}
 use Rattle.sheet.specs.declared.Bound.the-variants as B
 use Rattle.sheet.proofs.Accepted.{when-zero, else-zero, accepted-head, accepted-rows, accepted-table}
 use Rattle.accept.proofs.Asked.{RowNumber, row-number, row-accepted}
-use Rattle.bounds.specs.declared.Found.{Found}
 use Rattle.bounds.specs.declared.Found.the-variants as F
 use Rattle.bounds.specs.Search.{coordinate}
 

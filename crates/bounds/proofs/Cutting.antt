@@ -1,6 +1,6 @@
 -- The free points of the cut box are the allowed points of the row with the shape, so the extreme coordinate of the one is that of the
 -- other (`cut-extreme`, `cut-empty`). Assumes nothing.
-use mathlib.Core.Path.{_≡_, refl, sym, ap, _∙_, subst}
+use mathlib.Core.Path.{_≡_, sym, ap, _∙_}
 use mathlib.Core.Bool.{Bool, true, false, not, _&&_}
 use mathlib.Core.List.{List}
 use mathlib.Core.Option.{Option, none, some}
@@ -8,7 +8,7 @@ use Prim.Native.Nat.{ℕ, _<_}
 use lib.IntN.{ℤ}
 use Rattle.integers.proofs.Booleans.{clash, and-true}
 use Rattle.sheet.specs.Layout.{Lent, axes}
-use Rattle.sheet.specs.Allowed.{inRanges, roomsHold, forbidden, allowed}
+use Rattle.sheet.specs.Allowed.{forbidden, allowed}
 use Rattle.sheet.specs.Bounds.{Extreme, nowhere, there, leastOf, greatestOf}
 use Rattle.sheet.proofs.Extremes.{least-of, greatest-of, least-unique, greatest-unique}
 use Rattle.region.specs.declared.Area.{Area}

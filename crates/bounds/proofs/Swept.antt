@@ -2,7 +2,7 @@
 -- extreme coordinate (`swept-found`), a region of forbidden points is jumped over (`swept-on`), and an exhausted sweep means that
 -- every point of the area is forbidden (`swept-none`). One set of laws for both ends, over flip. Assumes nothing.
 use mathlib.Core.Path.{_≡_, refl, sym, ap, _∙_, subst}
-use mathlib.Core.Bool.{Bool, true, false, not, _&&_}
+use mathlib.Core.Bool.{Bool, true, false, not}
 use mathlib.Core.List.{List}
 use mathlib.Core.Option.{none, some}
 use Prim.Native.Nat.{ℕ, _≤_, _<_}
@@ -40,9 +40,9 @@ turn-ahead true y z h = reverses-turn y z h
 turn-ahead false y z h = h
 
 module _ (lent : Lent) (t : List ℤ) (i s d : ℕ) (few : axes lent ≤ 4) (hd : d < axes lent) (flip : Bool) (a : Area)
-         (filled : inArea (axes lent) a (a .low) ≡ true)
-         (first end : List ℤ) (box : TurnedBox flip (a .low) (a .high) first end)
-         (first-long : axes lent ≤ length first) (end-long : axes lent ≤ length end) where
+    (filled : inArea (axes lent) a (a .low) ≡ true)
+    (first end : List ℤ) (box : TurnedBox flip (a .low) (a .high) first end)
+    (first-long : axes lent ≤ length first) (end-long : axes lent ≤ length end) where
   -- the sweep's points are turned: a point q of it stands for the point turned flip q
   abbrev Bad : List ℤ → Type 0
   Bad q = forbidden lent t i s (turned flip q) ≡ true
@@ -83,25 +83,29 @@ module _ (lent : Lent) (t : List ℤ) (i s d : ℕ) (few : axes lent ≤ 4) (hd 
       pub swept-found : w .live ≡ true → forbidden lent t i s p ≡ false → Extreme (Ahead flip) (freeIn lent t i s a) d (some (word p d))
       swept-found l e =
           there p (free-by p (swept-in l) e) refl (λ q f.
-            let g = free-parts q f in
-            turn-ahead flip (word p d) (word q d)
-            (least-turned theorem r l (rotation-first few hd) flip point q (in-range q (g .0)) (not-bad q (g .1))))
+          let g = free-parts q f in
+          turn-ahead flip (word p d) (word q d)
+          (least-turned theorem r l (rotation-first few hd) flip point q (in-range q (g .0)) (not-bad q (g .1))))
 
       -- an area around p, all of whose points are forbidden, that ends at last when it is turned
       module _ (live : w .live ≡ true) (x : Area) {last : List ℤ} (ends : last ≡ turnedEnd flip (x .low) (x .high))
-               (last-long : axes lent ≤ length last) (around : inArea (axes lent) x p ≡ true)
-               (only : (q : List ℤ) → inArea (axes lent) x q ≡ true → forbidden lent t i s q ≡ true)
-               {next : Sweep} (moves : next ≡ advance (rotation (axes lent) d) first end (axes lent) (jumpedPast w last)) where
+          (last-long : axes lent ≤ length last) (around : inArea (axes lent) x p ≡ true)
+          (only : (q : List ℤ) → inArea (axes lent) x q ≡ true → forbidden lent t i s q ≡ true)
+          {next : Sweep} (moves : next ≡ advance (rotation (axes lent) d) first end (axes lent) (jumpedPast w last)) where
         turned-x : TurnedBox flip (x .low) (x .high) (turnedEnd flip (x .high) (x .low)) last
         turned-x = record { start = refl; end = ends }
 
         step : Step (axes lent) (rotation (axes lent) d) first end Bad w next
         step =
             record {
-              live = live; first = turnedEnd flip (x .high) (x .low); last = last; long = last-long;
+              live = live;
+              first = turnedEnd flip (x .high) (x .low);
+              last = last;
+              long = last-long;
               around = box-in turned-x (subst (InBox (axes lent) (x .low) (x .high)) point (area-box p around));
               bad = λ q b c. only (turned flip q) (box-area (turned flip q) (box-out turned-x c));
-              next = moves }
+              next = moves;
+            }
 
         pub swept-on : Swept next
         swept-on = onward r step
@@ -114,5 +118,5 @@ module _ (lent : Lent) (t : List ℤ) (i s d : ℕ) (few : axes lent ≤ 4) (hd 
     pub swept-none : w .live ≡ false → Extreme (Ahead flip) (freeIn lent t i s a) d none
     swept-none l =
         nowhere (λ p e.
-          let g = free-parts p e in
-          not-bad p (g .1) (theorem .exhausted r l (turned flip p) (in-range p (g .0))))
+        let g = free-parts p e in
+        not-bad p (g .1) (theorem .exhausted r l (turned flip p) (in-range p (g .0))))

@@ -26,7 +26,15 @@ pub enum Found {
 
 // The least coordinate in dimension d, or where flip is set the greatest, of the area's points that no rule forbids to row i with
 // shape s. The sweep's candidate is a point, or its mirror image.
-pub fn search(block: &[i64], table: &[i64], i: Place, s: usize, d: usize, flip: bool, area: Area) -> Found
+pub fn search(
+    block: &[i64],
+    table: &[i64],
+    i: Place,
+    s: usize,
+    d: usize,
+    flip: bool,
+    area: Area,
+) -> Found
     requires { ⌜ Block (lentOf (now block)) × Table (lentOf (now block)) (now table) × RowPlace (lentOf (now block)) (now table) i
         × (d < axes (lentOf (now block))) × Small area × (inArea (axes (lentOf (now block))) area (area .low) ≡ true) ⌝ }
     ensures { λ r. ⌜ Extreme (Ahead flip) (freeIn (lentOf (now (block .entry))) (now (table .entry)) (i .number) s area) d (coordinate r) ⌝ }

@@ -1,33 +1,24 @@
 -- `bounds::bound` meets its contract: a refusal is handed on, and otherwise the checks leave what `extreme` asks. Assumes nothing.
-use mathlib.Core.Path.{_≡_, refl, sym, ap, _∙_, subst}
+use mathlib.Core.Path.{_≡_, sym, ap, _∙_, subst}
 use mathlib.Core.List.{List}
 use Prim.Native.Nat.{ℕ, _≤_, _<_}
-use native.Mathlib.Omega.{arith}
 use lib.IntN.{ℤ, pos, natAbs}
 use mir.Syntax.{w64}
 use mir.Val.{SFits, toZ, ofZ}
 use mir.Facts.{toZ-ofZ}
 use Rattle.integers.specs.Integer.{nat}
-use Rattle.integers.proofs.Machine.{cast-ok, fits-word}
+use Rattle.integers.proofs.Machine.{cast-ok}
 use Rattle.sheet.specs.Layout.{Lent, lentOf, axes, rows}
-use Rattle.sheet.specs.Accepted.{Count}
 use Rattle.sheet.specs.Refusal.{refusalDim}
-use Rattle.sheet.specs.Answer.{boundAnswer}
 use Rattle.sheet.specs.declared.Bound.the-variants as B
 use Rattle.sheet.proofs.Accepted.{accepted-head, accepted-rows, accepted-block, accepted-table}
 use Rattle.words.proofs.Reading.{read-back, cast-nat}
 use Rattle.accept.proofs.Chain.{refused, accepted}
 use Rattle.bounds.specs.Search.{coordinate, extremeOf}
-use Rattle.bounds.specs.declared.Found.the-variants as F
 use Rattle.bounds.proofs.Calls.{ap₃, Asked, asked, answer-refused, answer-at, answer-none}
 use borrow.Author.Needs.{needs}
 use Rattle.bounds.proofs.bound.Statement.{statement}
 use Rattle.bounds.proofs.bound.Tie as tie
-use Rattle.bounds.proofs.bound.Reads as reads
-use Rattle.bounds.proofs.bound.Lts as lts
-use Rattle.accept.proofs.dim_refusal.Reads as dim-refusal-reads
-use Rattle.bounds.proofs.extreme.Reads as extreme-reads
-use Rattle.words.proofs.row_place.Reads as row-place-reads
 
 told : (c : tie.After-dim-refusal) → let a = c .before .args in
     c .dim-refusal .result ≡ pos (refusalDim (lentOf (a .block .now)) (a .table .now) (a .row) (a .shape) (a .dimension))
@@ -71,7 +62,7 @@ dim-refusal-requires : tie.Need-dim-refusal-requires
 dim-refusal-requires c κs = search needs
 
 returns : tie.Need-returns
-returns c = 
+returns c =
     let g = c .before .dim-refusal in
     ap B.Refused (read-back (told (c .before)) (g .ok)) ∙ sym (answer-refused _ (refused (told (c .before)) (g .ok) (c .if1 .taken)))
 
@@ -79,10 +70,13 @@ cast-row-place : tie.Need-cast-row-place
 cast-row-place c = let n = asks c .row-in .count in cast-ok (n .from) (n .upto) tt tt
 
 row-place-requires : tie.Need-row-place-requires
-row-place-requires c κs = 
-    let a = asks c in
-    (accepted-head (lent c) (t c) (a .accepted), accepted-rows (lent c) (t c) (a .accepted),
-     subst (λ (n : ℕ). 1 ≤ n) (sym (row-is c)) (a .row-in .from), subst (λ (n : ℕ). n ≤ rows (lent c) (t c)) (sym (row-is c)) (a .row-in .upto))
+row-place-requires c κs =
+    let a = asks c in (
+      accepted-head (lent c) (t c) (a .accepted),
+      accepted-rows (lent c) (t c) (a .accepted),
+      subst (λ (n : ℕ). 1 ≤ n) (sym (row-is c)) (a .row-in .from),
+      subst (λ (n : ℕ). n ≤ rows (lent c) (t c)) (sym (row-is c)) (a .row-in .upto),
+    )
 
 cast-extreme : tie.Need-cast-extreme
 cast-extreme c = let n = asks (c .before) .shape-in in cast-ok (n .from) (n .upto) tt tt
@@ -91,11 +85,14 @@ cast-extreme-2 : tie.Need-cast-extreme-2
 cast-extreme-2 c = let n = asks (c .before) .dim-in in cast-ok (n .from) (n .upto) tt tt
 
 extreme-requires : tie.Need-extreme-requires
-extreme-requires c κs = 
+extreme-requires c κs =
     let e = c .before in
-    let a = asks e in
-    (accepted-block (lent e) (t e) (a .accepted), accepted-table (lent e) (t e) (a .accepted), c .row-place .ensures .0,
-     subst (λ (n : ℕ). n < axes (lent e)) (sym (dim-is e)) (a .dim-below))
+    let a = asks e in (
+      accepted-block (lent e) (t e) (a .accepted),
+      accepted-table (lent e) (t e) (a .accepted),
+      c .row-place .ensures .0,
+      subst (λ (n : ℕ). n < axes (lent e)) (sym (dim-is e)) (a .dim-below),
+    )
 
 enum-known-z : tie.Need-enum-known-z
 enum-known-z c = search needs

@@ -1,22 +1,16 @@
 -- `bounds::extreme` meets its contract: the free points of the cut box are the allowed ones. Assumes nothing.
-use mathlib.Core.Path.{_≡_, refl, sym, ap, _∙_, subst}
+use mathlib.Core.Path.{_≡_, refl, sym, ap, _∙_}
 use borrow.Author.Tests.{not-true, not-false}
 use Prim.Native.Nat.{ℕ}
 use mathlib.Core.Option.{none}
 use Rattle.bounds.specs.declared.Found.the-variants.{Nothing}
-use Rattle.sheet.specs.Layout.{lentOf, axes}
+use Rattle.sheet.specs.Layout.{lentOf}
 use Rattle.region.specs.Area.{inArea}
 use Rattle.bounds.specs.Search.{coordinate}
 use Rattle.bounds.proofs.Cutting.{cut-extreme, cut-empty}
 use borrow.Author.Needs.{needs}
 use Rattle.bounds.proofs.extreme.Statement.{statement}
 use Rattle.bounds.proofs.extreme.Tie as tie
-use Rattle.bounds.proofs.extreme.Reads as reads
-use Rattle.bounds.proofs.extreme.Lts as lts
-use Rattle.bounds.proofs.search.Reads as search-reads
-use Rattle.region.proofs.Area.holds.Reads as holds-reads
-use Rattle.region.proofs.cut_box.Reads as cut-box-reads
-use Rattle.words.proofs.axes_of.Reads as axes-of-reads
 
 found-none : coordinate Nothing ≡ none
 unfolding coordinate
@@ -37,14 +31,19 @@ returns c =
     let s = cut .before .before in
     found-none
     ∙ cut-empty (lentOf (s .args .block .now)) (s .args .table .now) (s .args .i .number) (s .args .s) (cut .cut-box .result) (cut .cut-box .ensures) (s .args .flip) (s .args .d) (s .pre .3)
-      (ap (λ (n : ℕ). inArea n (cut .cut-box .result) (cut .cut-box .result .low)) (sym (cut .before .axes-of .ensures)) ∙ sym (c .before .holds .ensures) ∙ not-true _ (c .if1 .taken))
+    (ap (λ (n : ℕ). inArea n (cut .cut-box .result) (cut .cut-box .result .low)) (sym (cut .before .axes-of .ensures)) ∙ sym (c .before .holds .ensures) ∙ not-true _ (c .if1 .taken))
 
 search-requires : tie.Need-search-requires
 search-requires c κs =
     let cut = c .before .before .before in
-    let s = cut .before .before in
-    (s .pre .0, s .pre .1, s .pre .2, s .pre .3, cut .cut-box .ensures .small,
-     ap (λ (n : ℕ). inArea n (cut .cut-box .result) (cut .cut-box .result .low)) (sym (cut .before .axes-of .ensures)) ∙ sym (c .before .holds .ensures) ∙ not-false _ (c .if1 .left))
+    let s = cut .before .before in (
+      s .pre .0,
+      s .pre .1,
+      s .pre .2,
+      s .pre .3,
+      cut .cut-box .ensures .small,
+      ap (λ (n : ℕ). inArea n (cut .cut-box .result) (cut .cut-box .result .low)) (sym (cut .before .axes-of .ensures)) ∙ sym (c .before .holds .ensures) ∙ not-false _ (c .if1 .left),
+    )
 
 returns-2 : tie.Need-returns-2
 returns-2 c =

@@ -1,6 +1,6 @@
 -- `bounds::greatest` meets its contract. Assumes nothing.
-use mathlib.Core.Path.{_≡_, _∙_}
-use mathlib.Core.Bool.{true, false}
+use mathlib.Core.Path.{_∙_}
+use mathlib.Core.Bool.{true}
 use lib.IntN.{ℤ}
 use mir.Facts.{toZ-ofZ}
 use Rattle.integers.specs.Integer.{nat}
@@ -12,9 +12,6 @@ use Rattle.bounds.proofs.Calls.{ap₃}
 use borrow.Author.Needs.{needs}
 use Rattle.bounds.proofs.greatest.Statement.{statement}
 use Rattle.bounds.proofs.greatest.Tie as tie
-use Rattle.bounds.proofs.greatest.Reads as reads
-use Rattle.bounds.proofs.greatest.Lts as lts
-use Rattle.bounds.proofs.bound.Reads as bound-reads
 
 bound-requires : tie.Need-bound-requires
 bound-requires c κs = search needs
@@ -26,7 +23,7 @@ returns c =
     let f = c .before .fits in
     c .bound .ensures
     ∙ ap₃ (λ (r s d : ℤ). boundAnswer (refusalDim (lentOf (a .block .now)) (a .table .now) r s d) (extremeOf true (lentOf (a .block .now)) (a .table .now) (nat r) (nat s) (nat d)))
-      (toZ-ofZ (f .row)) (toZ-ofZ (f .shape)) (toZ-ofZ (f .dimension))
+    (toZ-ofZ (f .row)) (toZ-ofZ (f .shape)) (toZ-ofZ (f .dimension))
 
 pub greatest-spec : {M : Type 1} → statement M
 greatest-spec = tie.close (tie.spec bound-requires returns)

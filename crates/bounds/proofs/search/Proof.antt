@@ -1,7 +1,7 @@
 -- `bounds::search` meets its contract. The loop's invariant: the sweep has been reached by jumps over forbidden regions, and is live. Its
 -- measure is the number of points after the candidate. Assumes nothing.
 use mathlib.Core.Path.{_≡_, refl, sym, ap, _∙_, subst}
-use mathlib.Core.Bool.{Bool, true, false}
+use mathlib.Core.Bool.{true, false}
 use mathlib.Core.List.{List}
 use mathlib.Core.Option.{none, some}
 use Prim.Native.Nat.{ℕ, _≤_, _<_}
@@ -31,15 +31,6 @@ use Rattle.bounds.specs.declared.Found.the-variants.{At, Nothing}
 use Rattle.bounds.proofs.Swept.{swept-start, swept-near, swept-in, swept-found, swept-none, swept-on, swept-falls}
 use Rattle.bounds.proofs.search.Statement.{statement}
 use Rattle.bounds.proofs.search.Tie as tie
-use Rattle.bounds.proofs.search.Reads as reads
-use Rattle.bounds.proofs.search.Lts as lts
-use Rattle.forbid.proofs.forbidding_region.Reads as forbidding-region-reads
-use Rattle.sweep.proofs.Sweep.advanced.Reads as advanced-reads
-use Rattle.sweep.proofs.Sweep.jumped.Reads as jumped-reads
-use Rattle.sweep.proofs.Sweep.new.Reads as new-reads
-use Rattle.sweep.proofs.turned_end.Reads as turned-end-reads
-use Rattle.sweep.proofs.turned_point.Reads as turned-point-reads
-use Rattle.words.proofs.axes_of.Reads as axes-of-reads
 
 abbrev Inv-loop : tie.InvT-loop
 Inv-loop block table i s d flip k first end w₀ w =
@@ -125,10 +116,11 @@ new-requires : tie.Need-new-requires Inv-loop μ-loop
 new-requires c κs = near-last c
 
 loop-holds : tie.Need-loop-holds Inv-loop μ-loop
-loop-holds c = 
-    let b = c .before in
-    (swept-start (lent b) (t b) (top b .args .i .number) (top b .args .s) (top b .args .d) (few b) (below b) (top b .args .flip) (top b .args .area) (filled b) (first b) (end b) (box b) (first-long b) (end-long b) (c .new .ensures),
-     ap (λ (s : Sweep). s .live) (c .new .ensures))
+loop-holds c =
+    let b = c .before in (
+      swept-start (lent b) (t b) (top b .args .i .number) (top b .args .s) (top b .args .d) (few b) (below b) (top b .args .flip) (top b .args .area) (filled b) (first b) (end b) (box b) (first-long b) (end-long b) (c .new .ensures),
+      ap (λ (s : Sweep). s .live) (c .new .ensures),
+    )
 
 -- ---- at the loop's test
 module _ (l : tie.At-loop Inv-loop μ-loop) where
@@ -154,12 +146,15 @@ turned-point-requires : tie.Need-turned-point-requires Inv-loop μ-loop
 turned-point-requires c κs = candidate-is-near (c .before)
 
 forbidding-region-requires : tie.Need-forbidding-region-requires Inv-loop μ-loop
-forbidding-region-requires c κs = 
+forbidding-region-requires c κs =
     let l = c .before .before in
     let s = top (l .before .before) in
     record {
-      block = s .pre .0; table = s .pre .1; row = s .pre .2;
-      near = in-small _ _ (s .pre .4) (in-area l (c .turned-point .result) (c .turned-point .ensures)) }
+      block = s .pre .0;
+      table = s .pre .1;
+      row = s .pre .2;
+      near = in-small _ _ (s .pre .4) (in-area l (c .turned-point .result) (c .turned-point .ensures));
+    }
 
 mul-t25 : tie.Need-mul-t25 Inv-loop μ-loop
 mul-t25 c = let s = top (c .before .before .before .before .before .before) in omega (arith, s .pre .3, s .pre .0 .head .few-axes)
@@ -168,7 +163,7 @@ array-copy-out-t28 : tie.Need-array-copy-out-t28 Inv-loop μ-loop
 array-copy-out-t28 c = let s = top (c .before .before .before .before .before .before) in omega (arith, s .pre .3, s .pre .0 .head .few-axes)
 
 returns : tie.Need-returns Inv-loop μ-loop
-returns c = 
+returns c =
     let r = c .before .before in
     let l = r .before .before .before in
     let p = r .before .turned-point in
@@ -231,7 +226,7 @@ turned-end-requires-3 : tie.Need-turned-end-requires-3 Inv-loop μ-loop
 turned-end-requires-3 c κs = near-low (c .before .before .before .before .forbidding-region .ensures .small)
 
 jumped-requires : tie.Need-jumped-requires Inv-loop μ-loop
-jumped-requires c κs = 
+jumped-requires c κs =
     let s = region c .forbidding-region .ensures .small in
     near-end {low = region c .forbidding-region .result .area .low} {high = region c .forbidding-region .result .area .high}
     (record { start = refl; end = c .turned-end3 .ensures }) (near-low s) (near-high s)
@@ -240,7 +235,7 @@ advanced-requires : tie.Need-advanced-requires Inv-loop μ-loop
 advanced-requires c κs = near-last (c .before .before .before .before .before .before .before .before .before .before .before)
 
 returns-2 : tie.Need-returns-2 Inv-loop μ-loop
-returns-2 c = 
+returns-2 c =
     let a = c .before in
     let z : coordinate Nothing ≡ none = found-none in
     subst (Extreme _ _ _) (sym z) (exhausted a (not-true _ (c .if2 .taken)))

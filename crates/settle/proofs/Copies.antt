@@ -1,0 +1,46 @@
+-- The local copy of a table, and the answers of settling as the code gives them. Assumes nothing.
+use mathlib.Core.Path.{_≡_, refl, sym, ap₂, _∙_}
+use mathlib.Core.List.{List, _++_}
+use mathlib.Core.Option.{Option, none, some}
+use Prim.Native.Nat.{ℕ, zero, suc, _+_, _*_, _≤_, _<_}
+use native.Mathlib.Nat.{mul-le-mul}
+use native.Mathlib.Omega.{arith}
+use lib.IntN.{ℤ, pos}
+use lib.ListN.{length, take, drop, length-append, length-drop}
+use lib.Seq.{take-at}
+use Rattle.integers.specs.Below.{valueOr}
+use Rattle.sheet.specs.Layout.{Lent, rowLen}
+use Rattle.sheet.specs.Answer.{settleAnswer, tableAfter}
+use Rattle.sheet.specs.declared.Settling.the-variants.{Settled, NoLayout, Refused}
+use Rattle.sheet.specs.Accepted.{Block, Table}
+
+-- ---- an array whose first n words u came back from a loan
+module _ (u z : List ℤ) (n : ℕ) (e : length u ≡ n) where
+  pub front : take n (u ++ drop n z) ≡ u
+  front = take-at u (drop n z) n e
+
+  pub whole : n ≤ 288 → length z ≡ 288 → length (u ++ drop n z) ≡ 288
+  whole h k = length-append u (drop n z) ∙ (let q = length-drop n z in omega arith)
+
+-- an accepted table fits
+pub fits : {lent : Lent} {t : List ℤ} → Block lent → Table lent t → length t ≤ 288
+unfolding rowLen
+fits b w = omega (arith, w .whole .long, mul-le-mul (w .whole .few-rows) (row-short (b .head .few-axes)))
+  where
+    row-short : {k : ℕ} → k ≤ 4 → 1 + 2 * k ≤ 9
+    row-short h = omega arith
+
+-- ---- the answers
+pub answer-refused : {g : ℕ} (t : List ℤ) (o : Option (List ℤ)) → 0 < g → (Refused (pos g) ≡ settleAnswer g o) × (t ≡ tableAfter g t o)
+unfolding settleAnswer tableAfter
+answer-refused {g = zero} t o h = absurd (omega arith)
+answer-refused {g = suc g} t o h = (refl, refl)
+
+module _ {g : ℕ} (t : List ℤ) {o : Option (List ℤ)} (z : g ≡ 0) where
+  pub answer-none : o ≡ none → (NoLayout ≡ settleAnswer g o) × (t ≡ tableAfter g t o)
+  unfolding settleAnswer tableAfter valueOr
+  answer-none e = (sym (ap₂ settleAnswer z e), sym (ap₂ (λ (h : ℕ) (p : Option (List ℤ)). tableAfter h t p) z e))
+
+  pub answer-some : {v : List ℤ} → o ≡ some v → (Settled ≡ settleAnswer g o) × (v ≡ tableAfter g t o)
+  unfolding settleAnswer tableAfter valueOr
+  answer-some e = (sym (ap₂ settleAnswer z e), sym (ap₂ (λ (h : ℕ) (p : Option (List ℤ)). tableAfter h t p) z e))

@@ -1,0 +1,128 @@
+-- One turn of the settling loop: what the answer of narrowing a row leaves of the way and of the flags. Assumes nothing.
+use mathlib.Core.Path.{_≡_, refl, sym, ap, _∙_, subst}
+use mathlib.Core.Bool.{Bool, true, false, cond}
+use mathlib.Core.List.{List, [], _∷_}
+use mathlib.Core.Option.{Option, none, some}
+use Prim.Native.Nat.{ℕ, zero, suc, _+_, _≤_, _<_}
+use native.Mathlib.Numerals.{add-one}
+use native.Mathlib.Omega.{arith}
+use lib.IntN.{ℤ}
+use lib.ListN.{getD, set}
+use lib.Seq.{getD-set-other}
+use Rattle.integers.specs.Below.{valueOr}
+use Rattle.integers.specs.Words.{sameWords}
+use Rattle.integers.proofs.Booleans.{clash}
+use Rattle.integers.proofs.Lists.{same-eq, same-refl}
+use Rattle.sheet.specs.Layout.{Lent, axes, rows}
+use Rattle.sheet.specs.Narrow.{narrowOf}
+use Rattle.sheet.specs.Settle.{settleOf, together}
+use Rattle.sheet.proofs.Demand3.{narrow}
+use Rattle.narrow.specs.Steps.{stepAnswer}
+use Rattle.narrow.specs.declared.Step.{Step}
+use Rattle.narrow.specs.declared.Step.the-variants.{NoPlace, Still, Moved}
+use Rattle.settle.specs.declared.Flags.{Flags}
+use Rattle.settle.specs.Todo.{todo, Touched, OnTheWay, toGo}
+use Rattle.settle.proofs.Worked.{worked-none, worked-still, worked-moved, worked-falls, less-rows, less-extent}
+
+-- ---- the answer
+answer-none : (t : List ℤ) (o : Option (List ℤ)) → NoPlace ≡ stepAnswer t o → o ≡ none
+unfolding stepAnswer
+answer-none t none e = refl
+answer-none t (some v) e = absurd (go (sameWords v t) e)
+  where
+    go : (b : Bool) → NoPlace ≡ cond b Still Moved → ⊥
+    go true q = let z : _≡_ {A = ℕ} 0 1 = cc in omega arith
+    go false q = let z : _≡_ {A = ℕ} 0 1 = cc in omega arith
+
+answer-still : (t : List ℤ) (o : Option (List ℤ)) → Still ≡ stepAnswer t o → o ≡ some t
+unfolding stepAnswer
+answer-still t none e = absurd (let z : _≡_ {A = ℕ} 0 1 = cc in omega arith)
+answer-still t (some v) e = ap some (go (sameWords v t) refl e)
+  where
+    go : (b : Bool) → sameWords v t ≡ b → Still ≡ cond b Still Moved → v ≡ t
+    go true q k = same-eq q
+    go false q k = absurd (let z : _≡_ {A = ℕ} 0 1 = cc in omega arith)
+
+answer-moved : (t w : List ℤ) (o : Option (List ℤ)) → Moved ≡ stepAnswer t o → w ≡ valueOr t o → (o ≡ some w) × (w ≡ t → ⊥)
+unfolding stepAnswer valueOr
+answer-moved t w none e h = absurd (let z : _≡_ {A = ℕ} 0 1 = cc in omega arith)
+answer-moved t w (some v) e h = (ap some (sym h), λ q. go (sameWords v t) refl e (sym h ∙ q))
+  where
+    go : (b : Bool) → sameWords v t ≡ b → Moved ≡ cond b Still Moved → v ≡ t → ⊥
+    go true q k y = let z : _≡_ {A = ℕ} 0 1 = cc in omega arith
+    go false q k y = clash (subst (λ (x : List ℤ). sameWords x t ≡ true) (sym y) (same-refl t)) q
+
+left-still : (t w : List ℤ) {o : Option (List ℤ)} → o ≡ some t → w ≡ valueOr t o → w ≡ t
+unfolding valueOr
+left-still t w e h = h ∙ ap (valueOr t) e
+
+-- ---- a flag cleared
+abbrev pub cleared : Flags → ℕ → Flags
+cleared flags i = record { rows = set (flags .rows) i false }
+
+set-false : (xs : List Bool) (i : ℕ) → getD (set xs i false) i false ≡ false
+set-false [] i = refl
+set-false (x ∷ xs) zero = refl
+set-false (x ∷ xs) (suc i) = set-false xs i
+
+cleared-at : (flags : Flags) (i : ℕ) → todo (cleared flags i) i ≡ false
+unfolding todo
+cleared-at flags i = set-false (flags .rows) i
+
+cleared-other : {flags more : Flags} (i m : ℕ) → more ≡ flags → (m ≡ i → ⊥) → todo (cleared more i) m ≡ todo flags m
+unfolding todo
+cleared-other {more = more} i m q ne = getD-set-other (more .rows) i m false false ne ∙ ap (λ (f : Flags). todo f m) q
+
+-- ---- one turn: a row, number i + 1, was narrowed in v; its answer is r, and the table left w
+pub record Turn (lent : Lent) (t v w : List ℤ) (flags : Flags) (i : ℕ) (r : Step) : Type 0 where
+  pub dims : 0 < axes lent
+  pub way : OnTheWay lent t v flags
+  pub below : i < rows lent t
+  pub few : rows lent t ≤ 32
+  pub row : ℕ
+  pub number : row ≡ i + 1
+  pub told : r ≡ stepAnswer v (narrowOf lent v row)
+  pub left : w ≡ valueOr v (narrowOf lent v row)
+
+module _ {lent : Lent} {t v w : List ℤ} {flags : Flags} {i : ℕ} {r : Step} (x : Turn lent t v w flags i r) where
+  found : narrowOf lent v (x .row) ≡ narrow lent i v
+  found = ap (narrowOf lent v) (x .number ∙ add-one i)
+
+  pub turn-none : r ≡ NoPlace → settleOf lent t ≡ none
+  turn-none e =
+      worked-none lent (x .dims) t v flags (x .way) i (x .below) (sym found ∙ answer-none v (narrowOf lent v (x .row)) (sym e ∙ x .told))
+
+  -- nothing moved
+  module _ (e : r ≡ Still) where
+    stood : narrowOf lent v (x .row) ≡ some v
+    stood = answer-still v (narrowOf lent v (x .row)) (sym e ∙ x .told)
+
+    same : v ≡ w
+    same = sym (left-still v w stood (x .left))
+
+    module _ {more : Flags} (q : more ≡ flags) where
+      pub turn-still : OnTheWay lent t w (cleared more i)
+      turn-still =
+          subst (λ (u : List ℤ). OnTheWay lent t u (cleared more i)) same
+          (worked-still lent (x .dims) t v flags (x .way) i (x .below) (cleared more i) (sym found ∙ stood) (λ m ne. cleared-other i m q ne))
+
+      pub still-less : todo flags i ≡ true → toGo lent (rows lent t) w (cleared more i) < toGo lent (rows lent t) v flags
+      still-less set =
+          subst (λ (u : List ℤ). toGo lent (rows lent t) u (cleared more i) < toGo lent (rows lent t) v flags) same
+          (less-rows lent (rows lent t) (x .few) v flags (cleared more i) i (x .below) set (cleared-at more i) (λ m ne. cleared-other i m q ne))
+
+  -- a word moved
+  module _ (e : r ≡ Moved) where
+    moved : (narrowOf lent v (x .row) ≡ some w) × (w ≡ v → ⊥)
+    moved = answer-moved v w (narrowOf lent v (x .row)) (sym e ∙ x .told) (x .left)
+
+    pub turn-moved : {n : ℕ} {set more : Flags} → more ≡ set → n ≡ rows lent t
+        → Touched n flags (λ m. together lent (suc i) (suc m)) set → OnTheWay lent t w (cleared more i)
+    turn-moved {more = more} q k y =
+        worked-moved lent (x .dims) t v flags (x .way) i (x .below) w (sym found ∙ moved .0) (cleared more i)
+        (λ m h ne. cleared-other i m q ne ∙ y .is m (omega (arith, h, k)))
+
+    pub moved-less : (more : Flags) → toGo lent (rows lent t) w more < toGo lent (rows lent t) v flags
+    moved-less more =
+        less-extent lent (rows lent t) (x .few) v w flags more
+        (worked-falls lent (x .dims) t v flags (x .way) i (x .below) w (sym found ∙ moved .0) (moved .1))

@@ -1,0 +1,178 @@
+-- `settle::settle_rows` meets its contract: the table is on the way, and a row whose flag is not set does not move. Assumes nothing.
+use mathlib.Core.Path.{_≡_, refl, _∙_}
+use mathlib.Core.Logic.{⊎-elim}
+use mathlib.Core.Bool.{true, false}
+use Prim.Native.Nat.{ℕ, _≤_, _<_}
+use native.Mathlib.Nat.{eq-or-lt-of-le}
+use native.Mathlib.Omega.{arith}
+use borrow.Author.Needs.{needs}
+use lib.ListN.{set, replicate, getD-replicate}
+use Rattle.integers.proofs.Booleans.{clash}
+use Rattle.sheet.specs.Layout.{Lent, lentOf, axes, rows}
+use Rattle.sheet.specs.Accepted.{Table}
+use Rattle.sheet.proofs.Accepted.{rows-same}
+use Rattle.settle.specs.Todo.{todo, OnTheWay, toGo}
+use Rattle.settle.proofs.Worked.{worked-start, worked-end}
+use Rattle.settle.proofs.Steps.{cleared, Turn, turn-none, turn-still, still-less, turn-moved, moved-less}
+use Rattle.settle.proofs.settle_rows.Statement.{statement}
+use Rattle.settle.proofs.settle_rows.Tie as tie
+
+abbrev Inv-loop : tie.InvT-loop
+Inv-loop block table₀ n flags₀ at₀ table flags at =
+    OnTheWay (lentOf block) table₀ table flags × (n ≡ rows (lentOf block) table₀) × (at ≤ n)
+
+abbrev μ-loop : tie.MeasureT-loop
+μ-loop block table₀ n flags₀ at₀ table flags at = toGo (lentOf block) (rows (lentOf block) table₀) table flags
+
+all-set : (m : ℕ) → m < 32 → todo (record { rows = replicate 32 true }) m ≡ true
+unfolding todo
+all-set m h = getD-replicate 32 m true false h
+
+-- what is known where the loop starts a turn
+module _ (l : tie.At-loop Inv-loop μ-loop) where
+  abbrev s : tie.Start Inv-loop μ-loop
+  s = l .before .before .before
+
+  abbrev lent : Lent
+  lent = lentOf (s .args .block .now)
+
+  dims : 0 < axes lent
+  dims = s .pre .0 .head .some-axes
+
+  few : l .before .rows-of .result ≤ 32
+  few = omega (arith, s .pre .1 .whole .few-rows, l .loop .inv .1)
+
+  table : Table lent (l .loop .table)
+  table = l .loop .inv .0 .way .good .table
+
+-- a row is to be narrowed
+not-last : (e : tie.Else1 Inv-loop μ-loop) → e .before .next-row .result < e .before .before .before .rows-of .result
+not-last e = ⊎-elim (λ q. absurd (e .if1 .left q)) (λ h. h) (eq-or-lt-of-le (e .before .next-row .ensures .upto))
+
+-- and was narrowed
+module _ (d : tie.After-narrow-row Inv-loop μ-loop) where
+  abbrev e : tie.Else1 Inv-loop μ-loop
+  e = d .before .before .before .before
+
+  abbrev l : tie.At-loop Inv-loop μ-loop
+  l = e .before .before
+
+  turn : Turn (lent l) (s l .args .table .now) (l .loop .table) (d .narrow-row .last .1 .0) (l .loop .flags) (e .before .next-row .result)
+      (d .narrow-row .result)
+  turn =
+      record {
+        dims = dims l;
+        way = l .loop .inv .0;
+        below = omega (arith, not-last e, l .loop .inv .1);
+        few = s l .pre .1 .whole .few-rows;
+        row = d .before .before .row-place .result .number;
+        number = d .before .before .row-place .ensures .1;
+        told = d .narrow-row .ensures .0;
+        left = d .narrow-row .ensures .1;
+      }
+
+rows-of-requires : tie.Need-rows-of-requires Inv-loop μ-loop
+rows-of-requires c κs = c .before .pre .0 .head
+
+loop-holds : tie.Need-loop-holds Inv-loop μ-loop
+loop-holds c =
+    let s = c .before .before in
+    let lent = lentOf (s .args .block .now) in (
+      worked-start lent (s .pre .0 .head .some-axes) (s .args .table .now) _ (record { table = s .pre .1; as-long = refl })
+          (λ m h. all-set m (omega (arith, s .pre .1 .whole .few-rows))),
+      c .rows-of .ensures,
+      omega arith,
+    )
+
+next-row-requires : tie.Need-next-row-requires Inv-loop μ-loop
+next-row-requires c κs = (few c, c .loop .inv .2)
+
+same-length : tie.Need-same-length Inv-loop μ-loop
+same-length c = c .before .before .loop .inv .0 .way .good .as-long
+
+returns : tie.Need-returns Inv-loop μ-loop
+returns c =
+    let l = c .before .before in
+    record {
+      yes = λ e. worked-end (lent l) (dims l) (s l .args .table .now) (l .loop .table) (l .loop .flags) (l .loop .inv .0)
+          (λ m h. c .before .next-row .ensures .none (c .if1 .taken) m (omega (arith, h, l .loop .inv .1)));
+      no = λ e. clash refl e;
+    }
+
+add-row-place : tie.Need-add-row-place Inv-loop μ-loop
+add-row-place c = omega (arith, not-last (c .before), few (c .before .before .before))
+
+row-place-requires : tie.Need-row-place-requires Inv-loop μ-loop
+row-place-requires c κs =
+    let l = c .before .before .before in
+    let n = rows-same (lent l) (l .loop .table) (s l .args .table .now) (l .loop .inv .0 .way .good .as-long) in
+    (s l .pre .0 .head, table l .whole, omega arith, omega (arith, not-last (c .before), l .loop .inv .1, n))
+
+narrow-row-requires : tie.Need-narrow-row-requires Inv-loop μ-loop
+narrow-row-requires c κs =
+    let l = c .before .before .before .before .before in
+    (s l .pre .0, table l, c .before .row-place .ensures .0)
+
+enum-told : tie.Need-enum-told Inv-loop μ-loop
+enum-told c = search needs
+
+same-length-2 : tie.Need-same-length-2 Inv-loop μ-loop
+same-length-2 c = c .before .before .table .given ∙ l (c .before .before .before) .loop .inv .0 .way .good .as-long
+
+returns-2 : tie.Need-returns-2 Inv-loop μ-loop
+returns-2 c = record { yes = λ e. clash e refl; no = λ e. turn-none (turn (c .before .before .before)) (c .enum-told .given .1) }
+
+enum-told-2 : tie.Need-enum-told-2 Inv-loop μ-loop
+enum-told-2 c = search needs
+
+enum-told-3 : tie.Need-enum-told-3 Inv-loop μ-loop
+enum-told-3 c = search needs
+
+touched-requires : tie.Need-touched-requires Inv-loop μ-loop
+touched-requires c κs = let d = c .before .before .before in (s (l d) .pre .0, not-last (e d), few (l d))
+
+element-write-flags : tie.Need-element-write-flags Inv-loop μ-loop
+element-write-flags c = let d = c .before .before in omega (arith, not-last (e d), few (l d))
+
+loop-less : tie.Need-loop-less Inv-loop μ-loop
+loop-less c =
+    let d = c .before .before in
+    ⊎-elim
+    (λ a. still-less (turn d) (a .1 .given .1) (a .2) (e d .before .next-row .ensures .set (not-last (e d))))
+    (λ a. moved-less (turn d) (a .1 .given .1) (cleared (c .match .flags) (e d .before .next-row .result)))
+    (c .match .came)
+
+loop-again : tie.Need-loop-again Inv-loop μ-loop
+loop-again c =
+    let d = c .before .before in (
+      ⊎-elim
+          (λ a. turn-still (turn d) (a .1 .given .1) (a .2))
+          (λ a. turn-moved (turn d) (a .1 .given .1) (a .3) (l d .loop .inv .1) (a .2 .ensures))
+          (c .match .came),
+      l d .loop .inv .1,
+      e d .before .next-row .ensures .upto,
+    )
+
+pub settle-rows-spec : {M : Type 1} → statement M
+settle-rows-spec =
+    tie.close
+    (tie.spec
+    Inv-loop
+    μ-loop
+    rows-of-requires
+    loop-holds
+    next-row-requires
+    same-length
+    returns
+    add-row-place
+    row-place-requires
+    narrow-row-requires
+    enum-told
+    same-length-2
+    returns-2
+    enum-told-2
+    enum-told-3
+    touched-requires
+    element-write-flags
+    loop-less
+    loop-again)

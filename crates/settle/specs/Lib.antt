@@ -1,0 +1,2 @@
+pub mod Todo
+pub mod Demand

@@ -1,18 +1,16 @@
 // Settling the whole table (document 01): rows are narrowed until none is left that may still move, on a copy of the table, which is
 // written back once.
 ghost use mathlib.Core.Path.{_≡_};
-ghost use mathlib.Core.Bool.{Bool, true, false, _||_, _&&_};
 ghost use Prim.Native.Nat.{ℕ, suc, _+_, _<_, _≤_};
 ghost use mathlib.Core.Logic.{_⊎_};
 ghost use lib.ListN.{length};
-ghost use Rattle.integers.specs.Below.{anyBelow};
-ghost use Rattle.sheet.specs.Layout.{lentOf, rules, isNonOverlap, namesRow};
+ghost use Rattle.sheet.specs.Layout.{lentOf, rules, namesRow};
 ghost use Rattle.sheet.specs.Settle.{together, settleOf};
 ghost use Rattle.sheet.specs.Refusal.{refusal};
 ghost use Rattle.sheet.specs.Answer.{settleAnswer, tableAfter};
 ghost use Rattle.sheet.specs.Accepted.{Block, Table};
 ghost use Rattle.words.specs.Places.{RulePlace};
-ghost use Rattle.settle.specs.Todo.{todo, Next, Touched, namesBoth, FoundBy};
+ghost use Rattle.settle.specs.Todo.{Next, Touched, namesBoth, FoundBy};
 use narrow::Step;
 use sheet::Settling;
 use words::Place;

@@ -1,14 +1,20 @@
-// Looking at a sheet: whether a row with a shape is allowed at a point (document 01).
+// Looking at a sheet: whether a row with a shape is allowed at a point, and whether a fixed placement is good (document 01).
 ghost use mathlib.Core.Path.{_≡_};
+ghost use mathlib.Core.Bool.{true};
+ghost use Prim.Native.Nat.{ℕ, _<_};
 ghost use Rattle.integers.specs.Integer.{nat};
-ghost use Rattle.sheet.specs.Layout.{lentOf};
+ghost use Rattle.integers.specs.Words.{word};
+ghost use Rattle.sheet.specs.Layout.{lentOf, axes, low};
 ghost use Rattle.sheet.specs.Allowed.{allowed};
-ghost use Rattle.sheet.specs.Refusal.{refusalShape};
-ghost use Rattle.sheet.specs.Answer.{pointAnswer};
+ghost use Rattle.sheet.specs.Placement.{rowFixed, fixed, good};
+ghost use Rattle.sheet.specs.Refusal.{refusalShape, refusalPlacement};
+ghost use Rattle.sheet.specs.Answer.{pointAnswer, verdictAnswer};
 ghost use Rattle.sheet.specs.Accepted.{Block, Table};
 ghost use Rattle.words.specs.Places.{RowPlace};
+ghost use Rattle.placement.specs.Rows.{rowGood};
 use region::COORDINATES;
 use sheet::PointTest;
+use sheet::Verdict;
 use words::Place;
 
 // Row i with shape s is allowed at p: in the cut box, and no rule forbids it.
@@ -46,4 +52,63 @@ pub fn point_allowed(
         return PointTest::Allowed;
     }
     PointTest::NotAllowed
+}
+
+// ---- a fixed placement
+
+// The point of a fixed row.
+fn origin(block: &[i64], table: &[i64], i: Place) -> [i64; COORDINATES]
+    requires { ⌜ Block (lentOf (now block)) × Table (lentOf (now block)) (now table) × RowPlace (lentOf (now block)) (now table) i ⌝ }
+    ensures { λ r. ⌜ ((d : ℕ) → d < axes (lentOf (now (block .entry)))
+        → word r d ≡ low (lentOf (now (block .entry))) (now (table .entry)) (i .number) d) ⌝ }
+{
+    let k = words::axes_of(block);
+    let mut p = [0i64; COORDINATES];
+    let mut d = 0;
+    while d < k {
+        p[d] = words::low_of(block, table, i, d);
+        d += 1;
+    }
+    p
+}
+
+// Whether a fixed row stands at its point, with its one shape.
+fn row_good(block: &[i64], table: &[i64], i: Place) -> bool
+    requires { ⌜ Block (lentOf (now block)) × Table (lentOf (now block)) (now table) × RowPlace (lentOf (now block)) (now table) i
+        × (rowFixed (lentOf (now block)) (now table) (i .number) ≡ true) ⌝ }
+    ensures { λ r. ⌜ r ≡ rowGood (lentOf (now (block .entry))) (now (table .entry)) (i .number) ⌝ }
+{
+    let set = words::shapes_of(block, table, i);
+    let s = u32::trailing_zeros(set) as usize + 1;
+    stands(block, table, i, s, origin(block, table, i))
+}
+
+// Whether every row does.
+fn all_good(block: &[i64], table: &[i64]) -> bool
+    requires { ⌜ Block (lentOf (now block)) × Table (lentOf (now block)) (now table) × (fixed (lentOf (now block)) (now table) ≡ true) ⌝ }
+    ensures { λ r. ⌜ r ≡ good (lentOf (now (block .entry))) (now (table .entry)) ⌝ }
+{
+    let n = words::rows_of(block, table);
+    let mut m = 0;
+    while m < n {
+        if !row_good(block, table, words::row_place(block, table, m + 1)) {
+            return false;
+        }
+        m += 1;
+    }
+    true
+}
+
+pub fn check_placement(block: &[i64], table: &[i64]) -> Verdict
+    ensures { λ r. ⌜ r ≡ verdictAnswer (refusalPlacement (lentOf (now (block .entry))) (now (table .entry)))
+        (good (lentOf (now (block .entry))) (now (table .entry))) ⌝ }
+{
+    let g = accept::placement_refusal(block, table);
+    if g > 0 {
+        return Verdict::Refused(g);
+    }
+    if all_good(block, table) {
+        return Verdict::Good;
+    }
+    Verdict::NotGood
 }

@@ -10,23 +10,17 @@ use lib.IntN.{ℤ}
 use Rattle.sheet.specs.Layout.{Lent}
 use Rattle.sheet.specs.Refusal.{refusal}
 use Rattle.sheet.specs.Settle.{Settled, Settles, settleOf}
-use Rattle.sheet.specs.Answer.{settleAnswer, tableAfter}
 use Rattle.sheet.specs.declared.Settling.{Settling}
 use Rattle.sheet.specs.declared.Settling.the-variants as S
 use Rattle.sheet.proofs.Demand3.{demand-3, demand-3-unique}
-use Rattle.settle.specs.Demand.{Left, Demand3}
+use Rattle.settle.specs.Demand.{Left, Demand3, Promise}
 use Rattle.settle.proofs.Copies.{answer-none, answer-some}
 
 settled-not-none : S.Settled ≡ S.NoLayout → ⊥
 settled-not-none e = let z : _≡_ {A = ℕ} 0 1 = cc in omega arith
 
 module _ (lent : Lent) (given : List ℤ) (accepted : refusal lent given ≡ 0) (finding : Settling) (left : List ℤ) where
-  -- the promise of `settle::settle`
-  abbrev Promise : Type 0
-  Promise =
-      (finding ≡ settleAnswer (refusal lent given) (settleOf lent given)) × (left ≡ tableAfter (refusal lent given) given (settleOf lent given))
-
-  pub promise-demand-3 : Promise → Demand3 lent given finding left
+  pub promise-demand-3 : Promise lent given finding left → Demand3 lent given finding left
   promise-demand-3 p = by-finding (settleOf lent given) refl (demand-3 lent given accepted)
     where
       by-finding : (o : Option (List ℤ)) → settleOf lent given ≡ o → Settles lent given o → Demand3 lent given finding left
@@ -46,10 +40,10 @@ module _ (lent : Lent) (given : List ℤ) (accepted : refusal lent given ≡ 0) 
             otherwise = λ f. (q, l);
           }
 
-  pub demand-3-promise : Demand3 lent given finding left → Promise
+  pub demand-3-promise : Demand3 lent given finding left → Promise lent given finding left
   demand-3-promise d = by-finding (settleOf lent given) refl (demand-3 lent given accepted)
     where
-      by-finding : (o : Option (List ℤ)) → settleOf lent given ≡ o → Settles lent given o → Promise
+      by-finding : (o : Option (List ℤ)) → settleOf lent given ≡ o → Settles lent given o → Promise lent given finding left
       by-finding none e h =
           let a = answer-none given accepted e in
           let q = d .no-layout .1 h in

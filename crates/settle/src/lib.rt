@@ -5,12 +5,11 @@ ghost use Prim.Native.Nat.{ℕ, suc, _+_, _<_, _≤_};
 ghost use mathlib.Core.Logic.{_⊎_};
 ghost use lib.ListN.{length};
 ghost use Rattle.sheet.specs.Layout.{lentOf, rules, namesRow};
-ghost use Rattle.sheet.specs.Settle.{together, settleOf};
-ghost use Rattle.sheet.specs.Refusal.{refusal};
-ghost use Rattle.sheet.specs.Answer.{settleAnswer, tableAfter};
+ghost use Rattle.sheet.specs.Settle.{together};
 ghost use Rattle.sheet.specs.Accepted.{Block, Table};
 ghost use Rattle.words.specs.Places.{RulePlace};
 ghost use Rattle.settle.specs.Todo.{Next, Touched, namesBoth, FoundBy};
+ghost use Rattle.settle.specs.Demand.{Promise};
 use narrow::Step;
 use sheet::Settling;
 use words::Place;
@@ -138,10 +137,7 @@ fn settle_rows(block: &[i64], table: &mut [i64]) -> bool
 
 // Settles the table, or leaves it as it was.
 pub fn settle(block: &[i64], table: &mut [i64]) -> Settling
-    ensures { λ r. ⌜ (r ≡ settleAnswer (refusal (lentOf (now (block .entry))) (now (table .entry)))
-        (settleOf (lentOf (now (block .entry))) (now (table .entry))))
-        × (now (table .exit) ≡ tableAfter (refusal (lentOf (now (block .entry))) (now (table .entry))) (now (table .entry))
-        (settleOf (lentOf (now (block .entry))) (now (table .entry)))) ⌝ }
+    ensures { λ r. ⌜ Promise (lentOf (now (block .entry))) (now (table .entry)) r (now (table .exit)) ⌝ }
 {
     let g = accept::refusal(block, table);
     if g > 0 {

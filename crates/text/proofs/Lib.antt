@@ -1,0 +1,3 @@
+pub mod Long
+pub mod Readings
+pub mod Printed

@@ -1,0 +1,73 @@
+// The text program's two ends (document 01, "The text program"): reading a text, which makes checks 1 to 8, and writing the answer.
+ghost use mathlib.Core.Path.{_≡_};
+ghost use lib.ListN.{take};
+ghost use Rattle.stores.specs.Put.{Put};
+ghost use Rattle.sheet.specs.Text.{reading};
+ghost use Rattle.text.specs.Answers.{readingOf, refusedBy, printedOf};
+use sheet::Settling;
+
+// The refusal's number, 0 meaning none; block and table with the lengths in use, zeros past them; of a refused text lengths 0 and zeros.
+pub struct Reading {
+    pub refusal: i64,
+    pub block: [i64; 1507],
+    pub block_len: usize,
+    pub table: [i64; 288],
+    pub table_len: usize,
+}
+
+fn refused(refusal: i64) -> Reading
+    ensures { λ r. ⌜ r ≡ refusedBy refusal ⌝ }
+{
+    let b = form::block_zeros();
+    let t = form::table_zeros();
+    Reading {
+        refusal: refusal,
+        block: b,
+        block_len: 0,
+        table: t,
+        table_len: 0,
+    }
+}
+
+// A block of more words than there is room for has B or R past its range. A table of more words is refused as an empty one is.
+pub fn read_text(text: &[u8]) -> Reading
+    ensures { λ r. ⌜ r ≡ readingOf (reading (now (text .entry))) ⌝ }
+{
+    let p = form::parse_text(text);
+    if !p.formed {
+        return refused(1);
+    }
+    let n = p.block_len;
+    let m = p.table_len;
+    let b = p.block;
+    let t = p.table;
+    if n > 1507 {
+        return refused(3);
+    }
+    if m > 288 {
+        return refused(accept::refusal(&b[..n], &t[..0]));
+    }
+    let g = accept::refusal(&b[..n], &t[..m]);
+    if g > 0 {
+        return refused(g);
+    }
+    Reading {
+        refusal: 0,
+        block: b,
+        block_len: n,
+        table: t,
+        table_len: m,
+    }
+}
+
+// Puts what is printed for a finding of settling into `out`, as far as there is room; the result is the length needed. Of the table,
+// which is as settling left it, the first 288 words are looked at: no accepted sheet has more.
+pub fn write_answer(finding: Settling, block: &[i64], table: &[i64], out: &mut [u8]) -> usize
+    ensures { λ r. ⌜ Put (now (out .entry)) 0 (printedOf finding (now (block .entry)) (take 288 (now (table .entry)))) r (now (out .exit)) ⌝ }
+{
+    match finding {
+        Settling::Settled => listing::put_settled(out, block, table),
+        Settling::NoLayout => stores::put_bytes(out, 0, b"NO LAYOUT\n"),
+        Settling::Refused(g) => listing::put_refused(out, g),
+    }
+}

@@ -1,5 +1,6 @@
 // The least and the greatest coordinate of the points at which a row is allowed with a shape (document 01): the sweep of the cut box, which
-// asks at each candidate for a region that forbids it. One search serves both ends: the greatest is the least of the mirrored points.
+// asks at each candidate for a region that forbids it. What can forbid the row with the shape is listed before it. One search serves both
+// ends: the greatest is the least of the mirrored points.
 ghost use mathlib.Core.Path.{_≡_};
 ghost use mathlib.Core.Bool.{Bool, true, false};
 ghost use Prim.Native.Nat.{ℕ, _<_, _≤_};
@@ -12,7 +13,10 @@ ghost use Rattle.sheet.specs.Answer.{boundAnswer};
 ghost use Rattle.sheet.specs.Accepted.{Block, Table};
 ghost use Rattle.words.specs.Places.{RowPlace};
 ghost use Rattle.region.specs.Area.{inArea, Small};
+ghost use Rattle.nearby.specs.Listing.{Ready, Listed};
 ghost use Rattle.bounds.specs.Search.{Ahead, freeIn, coordinate, extremeOf};
+use nearby::LIST;
+use nearby::Nearby;
 use region::Area;
 use sheet::Bound;
 use sweep::Sweep;
@@ -25,10 +29,12 @@ pub enum Found {
 }
 
 // The least coordinate in dimension d, or where flip is set the greatest, of the area's points that no rule forbids to row i with
-// shape s. The sweep's candidate is a point, or its mirror image.
+// shape s. The list is that of the area. The sweep's candidate is a point, or its mirror image.
 pub fn search(
     block: &[i64],
     table: &[i64],
+    list: &[i64],
+    nearby: Nearby,
     i: Place,
     s: usize,
     d: usize,
@@ -36,7 +42,8 @@ pub fn search(
     area: Area,
 ) -> Found
     requires { ⌜ Block (lentOf (now block)) × Table (lentOf (now block)) (now table) × RowPlace (lentOf (now block)) (now table) i
-        × (d < axes (lentOf (now block))) × Small area × (inArea (axes (lentOf (now block))) area (area .low) ≡ true) ⌝ }
+        × (d < axes (lentOf (now block))) × Small area × (inArea (axes (lentOf (now block))) area (area .low) ≡ true)
+        × Ready (lentOf (now block)) (now list) × Listed (lentOf (now block)) (now table) (i .number) s area (now list) nearby ⌝ }
     ensures { λ r. ⌜ Extreme (Ahead flip) (freeIn (lentOf (now (block .entry))) (now (table .entry)) (i .number) s area) d (coordinate r) ⌝ }
 {
     let k = words::axes_of(block);
@@ -48,7 +55,7 @@ pub fn search(
     loop {
         let candidate = w.candidate;
         let p = sweep::turned_point(candidate, flip);
-        let x = forbid::forbidding_region(block, table, i, s, p);
+        let x = nearby::region_at(block, table, list, nearby, i, s, p);
         let hit = x.hit;
         if !hit {
             return Found::At(p[d]);
@@ -67,9 +74,17 @@ pub fn search(
 }
 
 // The same of the points at which the row is allowed.
-pub fn extreme(block: &[i64], table: &[i64], i: Place, s: usize, d: usize, flip: bool) -> Found
+pub fn extreme(
+    block: &[i64],
+    table: &[i64],
+    list: &mut [i64],
+    i: Place,
+    s: usize,
+    d: usize,
+    flip: bool,
+) -> Found
     requires { ⌜ Block (lentOf (now block)) × Table (lentOf (now block)) (now table) × RowPlace (lentOf (now block)) (now table) i
-        × (d < axes (lentOf (now block))) ⌝ }
+        × (d < axes (lentOf (now block))) × Ready (lentOf (now block)) (now list) ⌝ }
     ensures { λ r. ⌜ coordinate r ≡ extremeOf flip (lentOf (now (block .entry))) (now (table .entry)) (i .number) s d ⌝ }
 {
     let k = words::axes_of(block);
@@ -78,7 +93,8 @@ pub fn extreme(block: &[i64], table: &[i64], i: Place, s: usize, d: usize, flip:
     if !cut.holds(k, bottom) {
         return Found::Nothing;
     }
-    search(block, table, i, s, d, flip, cut)
+    let nearby = nearby::gather(block, table, list, i, s, cut);
+    search(block, table, list, nearby, i, s, d, flip, cut)
 }
 
 fn bound(block: &[i64], table: &[i64], row: i64, shape: i64, dimension: i64, flip: bool) -> Bound
@@ -90,7 +106,17 @@ fn bound(block: &[i64], table: &[i64], row: i64, shape: i64, dimension: i64, fli
         return Bound::Refused(g);
     }
     let i = words::row_place(block, table, row as usize);
-    match extreme(block, table, i, shape as usize, dimension as usize, flip) {
+    let mut list = [0i64; LIST];
+    nearby::prepare(block, &mut list);
+    match extreme(
+        block,
+        table,
+        &mut list,
+        i,
+        shape as usize,
+        dimension as usize,
+        flip,
+    ) {
         Found::At(z) => Bound::At(z),
         Found::Nothing => Bound::Nothing,
     }

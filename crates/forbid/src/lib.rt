@@ -1,7 +1,7 @@
 // The points that the non-overlap rules forbid to a row: a forbidden point with an area around it in which every point is forbidden.
 // This crate is the one place that knows rules of kind 1.
-mod pair;
-mod row;
+pub mod pair;
+pub mod row;
 
 ghost use mathlib.Core.Path.{_≡_};
 ghost use mathlib.Core.Bool.{_&&_};
@@ -59,7 +59,7 @@ fn rows_region(
 }
 
 // Whether rule r keeps row i apart from other rows.
-fn is_non_overlap_of(block: &[i64], r: Place, i: usize) -> bool
+pub fn is_non_overlap_of(block: &[i64], r: Place, i: usize) -> bool
     requires { ⌜ Block (lentOf (now block)) × RulePlace (lentOf (now block)) r × (1 ≤ i) × (i ≤ 32) ⌝ }
     ensures { λ x. ⌜ x ≡ (isNonOverlap (lentOf (now (block .entry))) (r .number)
         && namesRow (lentOf (now (block .entry))) (r .number) i) ⌝ }

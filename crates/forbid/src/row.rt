@@ -69,7 +69,7 @@ fn shapes_region(
 }
 
 // The one shape of row j, or 0 where its set holds several.
-fn only_shape(block: &[i64], table: &[i64], j: Place) -> usize
+pub fn only_shape(block: &[i64], table: &[i64], j: Place) -> usize
     requires { ⌜ Block (lentOf (now block)) × Table (lentOf (now block)) (now table) × RowPlace (lentOf (now block)) (now table) j ⌝ }
     ensures { λ x. ⌜ OnlyShape (lentOf (now (block .entry))) (now (table .entry)) (j .number) x ⌝ }
 {

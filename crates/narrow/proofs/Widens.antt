@@ -27,6 +27,8 @@ use Rattle.region.specs.declared.Area.{Area}
 use Rattle.region.specs.Area.{minZ, inArea, Cuts}
 use Rattle.region.specs.Rooms.{CutBox}
 use Rattle.region.proofs.Areas.{none-in}
+use Rattle.nearby.specs.declared.Nearby.{Nearby}
+use Rattle.nearby.specs.Listing.{Listed}
 use Rattle.bounds.specs.declared.Found.{Found}
 use Rattle.bounds.specs.declared.Found.the-variants as F
 use Rattle.bounds.specs.Search.{Ahead, freeIn, coordinate}
@@ -55,6 +57,11 @@ found-at x z e = ap coordinate e
 pub found-none : (x : Found) → x ≡ F.Nothing → coordinate x ≡ none
 unfolding coordinate
 found-none x e = ap coordinate e
+
+-- a list of an area is one of every cut of it
+pub listed-part : (lent : Lent) (t : List ℤ) (i s : ℕ) (cut area : Area) (list : List ℤ) (x : Nearby) {F : List ℤ → Bool}
+    → Cuts (axes lent) cut area F → Listed lent t i s cut list x → Listed lent t i s area list x
+listed-part lent t i s cut area list x cuts listed p h = listed p (and-true {a = inArea (axes lent) cut p} (sym (cuts .is p) ∙ h) .0)
 
 module _ (lent : Lent) (t : List ℤ) (i s : ℕ) (cut area : Area) (box : CutBox lent t i s cut) {F : List ℤ → Bool} (cuts : Cuts (axes lent) cut area F) where
   -- the free points of a cut of the cut box are the allowed points that pass

@@ -10,8 +10,10 @@ ghost use Rattle.sheet.specs.Accepted.{Block, Table};
 ghost use Rattle.words.specs.Places.{RowPlace};
 ghost use Rattle.region.specs.Area.{coordinates, Cuts};
 ghost use Rattle.region.specs.Rooms.{CutBox};
+ghost use Rattle.nearby.specs.Listing.{Ready, Listed};
 ghost use Rattle.narrow.specs.Ends.{past-from, past-to, End, Ends};
 use bounds::Found;
+use nearby::Nearby;
 use region::Area;
 use region::COORDINATES;
 use region::REACH;
@@ -29,9 +31,12 @@ fn ahead_of(area: Area, d: usize, flip: bool, z: i64) -> Area
 }
 
 // The end z that the shapes up to s reach in dimension d, taken on to the points of shape s + 1: only those ahead of z are searched.
+// The list is that of the cut box.
 fn widened_end(
     block: &[i64],
     table: &[i64],
+    list: &[i64],
+    nearby: Nearby,
     i: Place,
     s: usize,
     d: usize,
@@ -43,7 +48,8 @@ fn widened_end(
         × (d < axes (lentOf (now block))) × (s < 32)
         × (hasShape (lentOf (now block)) (now table) (i .number) (suc s) ≡ true)
         × CutBox (lentOf (now block)) (now table) (i .number) (suc s) cut
-        × End (lentOf (now block)) (now table) (i .number) flip s d z ⌝ }
+        × End (lentOf (now block)) (now table) (i .number) flip s d z
+        × Ready (lentOf (now block)) (now list) × Listed (lentOf (now block)) (now table) (i .number) (suc s) cut (now list) nearby ⌝ }
     ensures { λ r. ⌜ End (lentOf (now (block .entry))) (now (table .entry)) (i .number) flip (suc s) d r ⌝ }
 {
     let k = words::axes_of(block);
@@ -52,7 +58,7 @@ fn widened_end(
     if !ahead.holds(k, bottom) {
         return z;
     }
-    match bounds::search(block, table, i, s + 1, d, flip, ahead) {
+    match bounds::search(block, table, list, nearby, i, s + 1, d, flip, ahead) {
         Found::At(y) => y,
         Found::Nothing => z,
     }
@@ -62,6 +68,8 @@ fn widened_end(
 pub fn widened(
     block: &[i64],
     table: &[i64],
+    list: &[i64],
+    nearby: Nearby,
     i: Place,
     s: usize,
     cut: Area,
@@ -73,7 +81,8 @@ pub fn widened(
         × (first ≤ axes (lentOf (now block))) × (s < 32)
         × (hasShape (lentOf (now block)) (now table) (i .number) (suc s) ≡ true)
         × CutBox (lentOf (now block)) (now table) (i .number) (suc s) cut
-        × Ends (lentOf (now block)) (now table) (i .number) flip first (suc s) ends ⌝ }
+        × Ends (lentOf (now block)) (now table) (i .number) flip first (suc s) ends
+        × Ready (lentOf (now block)) (now list) × Listed (lentOf (now block)) (now table) (i .number) (suc s) cut (now list) nearby ⌝ }
     ensures { λ r. ⌜ Ends (lentOf (now (block .entry))) (now (table .entry)) (i .number) flip (axes (lentOf (now (block .entry)))) (suc s) r ⌝ }
 {
     let k = words::axes_of(block);
@@ -81,7 +90,7 @@ pub fn widened(
     let mut d = first;
     while d < k {
         let z = out[d];
-        out[d] = widened_end(block, table, i, s, d, flip, cut, z);
+        out[d] = widened_end(block, table, list, nearby, i, s, d, flip, cut, z);
         d += 1;
     }
     out

@@ -11,9 +11,11 @@ ghost use Rattle.sheet.specs.Accepted.{Block, Table};
 ghost use Rattle.words.specs.Places.{RowPlace};
 ghost use Rattle.region.specs.Area.{minZ};
 ghost use Rattle.region.specs.Rooms.{CutBox};
+ghost use Rattle.nearby.specs.Listing.{Ready, Listed};
 ghost use Rattle.narrow.specs.Hulls.{HullTo};
 use crate::ends;
 use bounds::Found;
+use nearby::Nearby;
 use region::Area;
 use region::COORDINATES;
 use words::Place;
@@ -41,10 +43,12 @@ fn lesser(a: i64, b: i64) -> i64
     if a <= b { a } else { b }
 }
 
-// The hull of the shapes up to s and of shape s + 1, whose least coordinate in dimension 0 is known.
+// The hull of the shapes up to s and of shape s + 1, whose cut box has the list and whose least coordinate in dimension 0 is known.
 fn with_points(
     block: &[i64],
     table: &[i64],
+    list: &[i64],
+    nearby: Nearby,
     i: Place,
     s: usize,
     cut: Area,
@@ -55,23 +59,33 @@ fn with_points(
         × (s < 32) × (hasShape (lentOf (now block)) (now table) (i .number) (suc s) ≡ true)
         × CutBox (lentOf (now block)) (now table) (i .number) (suc s) cut
         × HullTo (lentOf (now block)) (now table) (i .number) s hull
-        × Least (allowed (lentOf (now block)) (now table) (i .number) (suc s)) 0 (some least) ⌝ }
+        × Least (allowed (lentOf (now block)) (now table) (i .number) (suc s)) 0 (some least)
+        × Ready (lentOf (now block)) (now list) × Listed (lentOf (now block)) (now table) (i .number) (suc s) cut (now list) nearby ⌝ }
     ensures { λ r. ⌜ HullTo (lentOf (now (block .entry))) (now (table .entry)) (i .number) (suc s) r ⌝ }
 {
     let mut first = hull.low;
     first[0] = lesser(first[0], least);
-    let low = ends::widened(block, table, i, s, cut, first, 1, false);
+    let low = ends::widened(block, table, list, nearby, i, s, cut, first, 1, false);
     let last = hull.high;
-    let high = ends::widened(block, table, i, s, cut, last, 0, true);
+    let high = ends::widened(block, table, list, nearby, i, s, cut, last, 0, true);
     let shapes = with_member(hull.shapes, s);
     Hull { shapes, low, high }
 }
 
 // The hull of the shapes up to s and of shape s + 1.
-fn with_shape(block: &[i64], table: &[i64], i: Place, s: usize, hull: Hull) -> Hull
+fn with_shape(
+    block: &[i64],
+    table: &[i64],
+    list: &mut [i64],
+    i: Place,
+    s: usize,
+    hull: Hull,
+) -> Hull
     requires { ⌜ Block (lentOf (now block)) × Table (lentOf (now block)) (now table) × RowPlace (lentOf (now block)) (now table) i
-        × (s < 32) × HullTo (lentOf (now block)) (now table) (i .number) s hull ⌝ }
-    ensures { λ r. ⌜ HullTo (lentOf (now (block .entry))) (now (table .entry)) (i .number) (suc s) r ⌝ }
+        × (s < 32) × HullTo (lentOf (now block)) (now table) (i .number) s hull
+        × Ready (lentOf (now block)) (now list) ⌝ }
+    ensures { λ r. ⌜ HullTo (lentOf (now (block .entry))) (now (table .entry)) (i .number) (suc s) r
+        × Ready (lentOf (now (block .entry))) (now (list .exit)) ⌝ }
 {
     if !words::has_shape(block, table, i, s + 1) {
         return hull;
@@ -82,16 +96,19 @@ fn with_shape(block: &[i64], table: &[i64], i: Place, s: usize, hull: Hull) -> H
     if !cut.holds(k, bottom) {
         return hull;
     }
-    match bounds::search(block, table, i, s + 1, 0, false, cut) {
-        Found::At(least) => with_points(block, table, i, s, cut, hull, least),
+    let nearby = nearby::gather(block, table, list, i, s + 1, cut);
+    match bounds::search(block, table, list, nearby, i, s + 1, 0, false, cut) {
+        Found::At(least) => with_points(block, table, list, nearby, i, s, cut, hull, least),
         Found::Nothing => hull,
     }
 }
 
 // The hull of every shape of row i.
-pub fn row_hull(block: &[i64], table: &[i64], i: Place) -> Hull
-    requires { ⌜ Block (lentOf (now block)) × Table (lentOf (now block)) (now table) × RowPlace (lentOf (now block)) (now table) i ⌝ }
-    ensures { λ r. ⌜ HullTo (lentOf (now (block .entry))) (now (table .entry)) (i .number) 32 r ⌝ }
+pub fn row_hull(block: &[i64], table: &[i64], list: &mut [i64], i: Place) -> Hull
+    requires { ⌜ Block (lentOf (now block)) × Table (lentOf (now block)) (now table) × RowPlace (lentOf (now block)) (now table) i
+        × Ready (lentOf (now block)) (now list) ⌝ }
+    ensures { λ r. ⌜ HullTo (lentOf (now (block .entry))) (now (table .entry)) (i .number) 32 r
+        × Ready (lentOf (now (block .entry))) (now (list .exit)) ⌝ }
 {
     let low = [NOWHERE; COORDINATES];
     let high = [-NOWHERE; COORDINATES];
@@ -102,7 +119,7 @@ pub fn row_hull(block: &[i64], table: &[i64], i: Place) -> Hull
     };
     let mut s = 0;
     while s < 32 {
-        hull = with_shape(block, table, i, s, hull);
+        hull = with_shape(block, table, list, i, s, hull);
         s += 1;
     }
     hull

@@ -1,4 +1,5 @@
-// Narrowing one row (document 01): the hull of its points is searched shape by shape, and written into the row.
+// Narrowing one row (document 01): the hull of its points is searched shape by shape, and written into the row. What can forbid it is
+// listed, for each shape once, in a list that the caller lends.
 mod ends;
 mod hull;
 
@@ -17,7 +18,9 @@ ghost use Rattle.sheet.specs.Refusal.{refusalRow};
 ghost use Rattle.sheet.specs.Answer.{narrowAnswer, tableAfter};
 ghost use Rattle.sheet.specs.Accepted.{Head, Rows, Block, Table};
 ghost use Rattle.words.specs.Places.{RowPlace};
+ghost use Rattle.nearby.specs.Listing.{Ready};
 ghost use Rattle.narrow.specs.Steps.{stepAnswer};
+use nearby::LIST;
 use region::COORDINATES;
 use sheet::Narrowing;
 use words::Place;
@@ -69,12 +72,14 @@ fn write_row(
 }
 
 // Narrows row i of an accepted sheet; the table stays as it was where no place is left.
-pub fn narrow_row(block: &[i64], table: &mut [i64], i: Place) -> Step
-    requires { ⌜ Block (lentOf (now block)) × Table (lentOf (now block)) (now table) × RowPlace (lentOf (now block)) (now table) i ⌝ }
+pub fn narrow_row(block: &[i64], table: &mut [i64], list: &mut [i64], i: Place) -> Step
+    requires { ⌜ Block (lentOf (now block)) × Table (lentOf (now block)) (now table) × RowPlace (lentOf (now block)) (now table) i
+        × Ready (lentOf (now block)) (now list) ⌝ }
     ensures { λ r. ⌜ (r ≡ stepAnswer (now (table .entry)) (narrowOf (lentOf (now (block .entry))) (now (table .entry)) (i .number)))
-        × (now (table .exit) ≡ valueOr (now (table .entry)) (narrowOf (lentOf (now (block .entry))) (now (table .entry)) (i .number))) ⌝ }
+        × (now (table .exit) ≡ valueOr (now (table .entry)) (narrowOf (lentOf (now (block .entry))) (now (table .entry)) (i .number)))
+        × Ready (lentOf (now (block .entry))) (now (list .exit)) ⌝ }
 {
-    let hull = hull::row_hull(block, table, i);
+    let hull = hull::row_hull(block, table, list, i);
     let shapes = hull.shapes;
     if shapes == 0 {
         return Step::NoPlace;
@@ -99,7 +104,9 @@ pub fn narrow(block: &[i64], table: &mut [i64], row: i64) -> Narrowing
         return Narrowing::Refused(g);
     }
     let i = words::row_place(block, table, row as usize);
-    match narrow_row(block, table, i) {
+    let mut list = [0i64; LIST];
+    nearby::prepare(block, &mut list);
+    match narrow_row(block, table, &mut list, i) {
         Step::NoPlace => Narrowing::NoPlace,
         Step::Still => Narrowing::Narrowed,
         Step::Moved => Narrowing::Narrowed,

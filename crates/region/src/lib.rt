@@ -20,13 +20,13 @@ pub const COORDINATES: usize = 4;
 pub const REACH: i64 = 2000000;
 
 // The larger and the lesser of two numbers.
-fn larger(a: i64, b: i64) -> i64
+pub fn larger(a: i64, b: i64) -> i64
     ensures { λ r. ⌜ r ≡ maxZ a b ⌝ }
 {
     if a <= b { b } else { a }
 }
 
-fn lesser(a: i64, b: i64) -> i64
+pub fn lesser(a: i64, b: i64) -> i64
     ensures { λ r. ⌜ r ≡ minZ a b ⌝ }
 {
     if a <= b { a } else { b }

@@ -8,9 +8,11 @@ ghost use Rattle.sheet.specs.Layout.{lentOf, rules, namesRow};
 ghost use Rattle.sheet.specs.Settle.{together};
 ghost use Rattle.sheet.specs.Accepted.{Block, Table};
 ghost use Rattle.words.specs.Places.{RulePlace};
+ghost use Rattle.nearby.specs.Listing.{Ready};
 ghost use Rattle.settle.specs.Todo.{Next, Touched, namesBoth, FoundBy};
 ghost use Rattle.settle.specs.Demand.{Promise};
 use narrow::Step;
+use nearby::LIST;
 use sheet::Settling;
 use words::Place;
 
@@ -108,8 +110,8 @@ fn copy(to: &mut [i64], from: &[i64])
 
 // Narrows rows until none is left that may still move. Where some row has no place the words are those at that moment, and the
 // caller drops them.
-fn settle_rows(block: &[i64], table: &mut [i64]) -> bool
-    requires { ⌜ Block (lentOf (now block)) × Table (lentOf (now block)) (now table) ⌝ }
+fn settle_rows(block: &[i64], table: &mut [i64], list: &mut [i64]) -> bool
+    requires { ⌜ Block (lentOf (now block)) × Table (lentOf (now block)) (now table) × Ready (lentOf (now block)) (now list) ⌝ }
     ensures { λ r. ⌜ FoundBy (lentOf (now (block .entry))) (now (table .entry)) r (now (table .exit)) ⌝ }
 {
     let n = words::rows_of(block, table);
@@ -121,7 +123,7 @@ fn settle_rows(block: &[i64], table: &mut [i64]) -> bool
             return true;
         }
         let row = words::row_place(block, table, i + 1);
-        match narrow::narrow_row(block, table, row) {
+        match narrow::narrow_row(block, table, list, row) {
             Step::NoPlace => {
                 return false;
             }
@@ -146,7 +148,9 @@ pub fn settle(block: &[i64], table: &mut [i64]) -> Settling
     let n = table.len();
     let mut work = [0i64; WORDS];
     copy(&mut work[..n], table);
-    if !settle_rows(block, &mut work[..n]) {
+    let mut list = [0i64; LIST];
+    nearby::prepare(block, &mut list);
+    if !settle_rows(block, &mut work[..n], &mut list) {
         return Settling::NoLayout;
     }
     copy(table, &work[..n]);

@@ -2,6 +2,7 @@
 use mathlib.Core.Path.{_≡_, sym, ap, _∙_, subst}
 use mathlib.Core.List.{List}
 use Prim.Native.Nat.{ℕ, _≤_, _<_}
+use native.Mathlib.Omega.{arith}
 use lib.IntN.{ℤ, pos, natAbs}
 use mir.Syntax.{w64}
 use mir.Val.{SFits, toZ, ofZ}
@@ -51,12 +52,13 @@ module _ (e : tie.Else1) where
   dim-is : natAbs (toZ w64 (ofZ w64 (top .args .dimension))) ≡ nat (top .args .dimension)
   dim-is = cast-nat (top .args .dimension) (top .fits .dimension .sfits) (asks .dim-in)
 
-found : (x : tie.After-extreme) → let e = x .before .before in
+found : (x : tie.After-extreme) → let e = x .before .before .before .before .before .before in
     coordinate (x .extreme .result) ≡ extremeOf (top e .args .flip) (lent e) (t e) (nat (top e .args .row)) (nat (top e .args .shape)) (nat (top e .args .dimension))
 found x =
-    let e = x .before .before in
+    let r = x .before .before .before .before .before in
+    let e = r .before in
     x .extreme .ensures
-    ∙ ap₃ (extremeOf (top e .args .flip) (lent e) (t e)) (x .before .row-place .ensures .1 ∙ row-is e) (shape-is e) (dim-is e)
+    ∙ ap₃ (extremeOf (top e .args .flip) (lent e) (t e)) (r .row-place .ensures .1 ∙ row-is e) (shape-is e) (dim-is e)
 
 dim-refusal-requires : tie.Need-dim-refusal-requires
 dim-refusal-requires c κs = search needs
@@ -78,20 +80,32 @@ row-place-requires c κs =
       subst (λ (n : ℕ). n ≤ rows (lent c) (t c)) (sym (row-is c)) (a .row-in .upto),
     )
 
+slice-aggregate-prepare : tie.Need-slice-aggregate-prepare
+slice-aggregate-prepare c = search needs
+
+prepare-requires : tie.Need-prepare-requires
+prepare-requires c κs = let e = c .before .before in (accepted-block (lent e) (t e) (asks e .accepted), omega arith)
+
+slice-aggregate-extreme : tie.Need-slice-aggregate-extreme
+slice-aggregate-extreme c = search needs
+
 cast-extreme : tie.Need-cast-extreme
-cast-extreme c = let n = asks (c .before) .shape-in in cast-ok (n .from) (n .upto) tt tt
+cast-extreme c = let n = asks (c .before .before .before .before .before) .shape-in in cast-ok (n .from) (n .upto) tt tt
 
 cast-extreme-2 : tie.Need-cast-extreme-2
-cast-extreme-2 c = let n = asks (c .before) .dim-in in cast-ok (n .from) (n .upto) tt tt
+cast-extreme-2 c = let n = asks (c .before .before .before .before .before) .dim-in in cast-ok (n .from) (n .upto) tt tt
 
 extreme-requires : tie.Need-extreme-requires
 extreme-requires c κs =
-    let e = c .before in
+    let p = c .before .before in
+    let r = p .before .before in
+    let e = r .before in
     let a = asks e in (
       accepted-block (lent e) (t e) (a .accepted),
       accepted-table (lent e) (t e) (a .accepted),
-      c .row-place .ensures .0,
+      r .row-place .ensures .0,
       subst (λ (n : ℕ). n < axes (lent e)) (sym (dim-is e)) (a .dim-below),
+      p .prepare .ensures,
     )
 
 enum-known-z : tie.Need-enum-known-z
@@ -102,14 +116,14 @@ enum-told c = search needs
 
 returns-2 : tie.Need-returns-2
 returns-2 c =
-    let x = c .before .before .before in
+    let x = c .before .before .before .before in
     let f : SFits w64 (c .before .z .given .0 .0) = search needs in
-    ap B.At (toZ-ofZ f) ∙ answer-at (c .before .z .given .0 .0) (no-refusal (x .before .before)) (ap coordinate (sym (c .before .z .given .1)) ∙ found x)
+    ap B.At (toZ-ofZ f) ∙ answer-at (c .before .z .given .0 .0) (no-refusal (x .before .before .before .before .before .before)) (ap coordinate (sym (c .before .z .given .1)) ∙ found x)
 
 returns-3 : tie.Need-returns-3
 returns-3 c =
-    let x = c .before .before in
-    answer-none (no-refusal (x .before .before)) (ap coordinate (sym (c .enum-told .given .1)) ∙ found x)
+    let x = c .before .before .before in
+    answer-none (no-refusal (x .before .before .before .before .before .before)) (ap coordinate (sym (c .enum-told .given .1)) ∙ found x)
 
 pub bound-spec : {M : Type 1} → statement M
 bound-spec =
@@ -119,6 +133,9 @@ bound-spec =
     returns
     cast-row-place
     row-place-requires
+    slice-aggregate-prepare
+    prepare-requires
+    slice-aggregate-extreme
     cast-extreme
     cast-extreme-2
     extreme-requires

@@ -33,12 +33,12 @@ use Rattle.bounds.proofs.search.Statement.{statement}
 use Rattle.bounds.proofs.search.Tie as tie
 
 abbrev Inv-loop : tie.InvT-loop
-Inv-loop block table i s d flip k first end w₀ w =
+Inv-loop block table list nearby i s d flip k first end w₀ w =
     Reached (axes (lentOf block)) (rotation (axes (lentOf block)) d) first end (λ q. forbidden (lentOf block) table (i .number) s (turned flip q) ≡ true) w
     × (w .live ≡ true)
 
 abbrev μ-loop : tie.MeasureT-loop
-μ-loop block table i s d flip k first end w₀ w = pointsAfter (rotation (axes (lentOf block)) d) first end (axes (lentOf block)) (w .candidate)
+μ-loop block table list nearby i s d flip k first end w₀ w = pointsAfter (rotation (axes (lentOf block)) d) first end (axes (lentOf block)) (w .candidate)
 
 found-at : (z : ℤ) → coordinate (At z) ≡ some z
 unfolding coordinate
@@ -145,34 +145,30 @@ module _ (l : tie.At-loop Inv-loop μ-loop) where
 turned-point-requires : tie.Need-turned-point-requires Inv-loop μ-loop
 turned-point-requires c κs = candidate-is-near (c .before)
 
-forbidding-region-requires : tie.Need-forbidding-region-requires Inv-loop μ-loop
-forbidding-region-requires c κs =
+region-at-requires : tie.Need-region-at-requires Inv-loop μ-loop
+region-at-requires c κs =
     let l = c .before .before in
     let s = top (l .before .before) in
-    record {
-      block = s .pre .0;
-      table = s .pre .1;
-      row = s .pre .2;
-      near = in-small _ _ (s .pre .4) (in-area l (c .turned-point .result) (c .turned-point .ensures));
-    }
+    let h = in-area l (c .turned-point .result) (c .turned-point .ensures) in
+    (record { block = s .pre .0; table = s .pre .1; row = s .pre .2; near = in-small _ _ (s .pre .4) h }, s .pre .6, s .pre .7 (c .turned-point .result) h)
 
-mul-t25 : tie.Need-mul-t25 Inv-loop μ-loop
-mul-t25 c = let s = top (c .before .before .before .before .before .before) in omega (arith, s .pre .3, s .pre .0 .head .few-axes)
+mul-t27 : tie.Need-mul-t27 Inv-loop μ-loop
+mul-t27 c = let s = top (c .before .before .before .before .before .before) in omega (arith, s .pre .3, s .pre .0 .head .few-axes)
 
-array-copy-out-t28 : tie.Need-array-copy-out-t28 Inv-loop μ-loop
-array-copy-out-t28 c = let s = top (c .before .before .before .before .before .before) in omega (arith, s .pre .3, s .pre .0 .head .few-axes)
+array-copy-out-t30 : tie.Need-array-copy-out-t30 Inv-loop μ-loop
+array-copy-out-t30 c = let s = top (c .before .before .before .before .before .before) in omega (arith, s .pre .3, s .pre .0 .head .few-axes)
 
 returns : tie.Need-returns Inv-loop μ-loop
 returns c =
     let r = c .before .before in
     let l = r .before .before .before in
     let p = r .before .turned-point in
-    subst (Extreme _ _ _) (sym (ap (λ (z : ℤ). coordinate (At z)) (toZ-ofZ (fits-word (word (p .result) (top (l .before .before) .args .d)) (c .t28 .given))) ∙ found-at (word (p .result) (top (l .before .before) .args .d))))
-    (free-found l (p .result) (p .ensures) (sym (r .forbidding-region .ensures .hit) ∙ not-true _ (c .before .if1 .taken)))
+    subst (Extreme _ _ _) (sym (ap (λ (z : ℤ). coordinate (At z)) (toZ-ofZ (fits-word (word (p .result) (top (l .before .before) .args .d)) (c .t30 .given))) ∙ found-at (word (p .result) (top (l .before .before) .args .d))))
+    (free-found l (p .result) (p .ensures) (sym (r .region-at .ensures .hit) ∙ not-true _ (c .before .if1 .taken)))
 
 -- ---- a region that forbids the point
 module _ (c : tie.After-turned-end3 Inv-loop μ-loop) where
-  abbrev region : tie.After-forbidding-region Inv-loop μ-loop
+  abbrev region : tie.After-region-at Inv-loop μ-loop
   region = c .before .before .before .before .before
 
   abbrev test : tie.At-loop Inv-loop μ-loop
@@ -181,7 +177,7 @@ module _ (c : tie.After-turned-end3 Inv-loop μ-loop) where
   last-length : length (c .turned-end3 .result) ≡ 4
   last-length = search needs
 
-  hit : region .forbidding-region .result .hit ≡ true
+  hit : region .region-at .result .hit ≡ true
   hit = not-false _ (c .before .before .before .before .if1 .left)
 
 module _ (c : tie.After-advanced Inv-loop μ-loop) where
@@ -207,8 +203,8 @@ module _ (c : tie.After-advanced Inv-loop μ-loop) where
       (λ q. forbidden (lent b2) (t b2) (top b2 .args .i .number) (top b2 .args .s) (turned (top b2 .args .flip) q) ≡ true) (c .advanced .result)
   swept-next =
       swept-on (lent b2) (t b2) (top b2 .args .i .number) (top b2 .args .s) (top b2 .args .d) (few b2) (below b2) (top b2 .args .flip) (top b2 .args .area) (filled b2) (first b2) (end b2) (box b2) (first-long b2) (end-long b2) (l .loop .inv .0) (region jump .before .turned-point .ensures) (l .loop .inv .1)
-      (region jump .forbidding-region .result .area) (jump .turned-end3 .ensures) (omega (arith, few b2, last-length jump))
-      (region jump .forbidding-region .ensures .around (hit jump)) (region jump .forbidding-region .ensures .only (hit jump)) moves
+      (region jump .region-at .result .area) (jump .turned-end3 .ensures) (omega (arith, few b2, last-length jump))
+      (region jump .region-at .ensures .around (hit jump)) (region jump .region-at .ensures .only (hit jump)) moves
 
   exhausted : c .advanced .result .live ≡ false
       → Extreme (Ahead (top b2 .args .flip)) (freeIn (lent b2) (t b2) (top b2 .args .i .number) (top b2 .args .s) (top b2 .args .area)) (top b2 .args .d) none
@@ -219,16 +215,16 @@ module _ (c : tie.After-advanced Inv-loop μ-loop) where
       < pointsAfter (rotation (axes (lent b2)) (top b2 .args .d)) (first b2) (end b2) (axes (lent b2)) (l .loop .w .candidate)
   falls-next =
       swept-falls (lent b2) (t b2) (top b2 .args .i .number) (top b2 .args .s) (top b2 .args .d) (few b2) (below b2) (top b2 .args .flip) (top b2 .args .area) (filled b2) (first b2) (end b2) (box b2) (first-long b2) (end-long b2) (l .loop .inv .0) (region jump .before .turned-point .ensures) (l .loop .inv .1)
-      (region jump .forbidding-region .result .area) (jump .turned-end3 .ensures) (omega (arith, few b2, last-length jump))
-      (region jump .forbidding-region .ensures .around (hit jump)) (region jump .forbidding-region .ensures .only (hit jump)) moves
+      (region jump .region-at .result .area) (jump .turned-end3 .ensures) (omega (arith, few b2, last-length jump))
+      (region jump .region-at .ensures .around (hit jump)) (region jump .region-at .ensures .only (hit jump)) moves
 
 turned-end-requires-3 : tie.Need-turned-end-requires-3 Inv-loop μ-loop
-turned-end-requires-3 c κs = near-low (c .before .before .before .before .forbidding-region .ensures .small)
+turned-end-requires-3 c κs = near-low (c .before .before .before .before .region-at .ensures .small)
 
 jumped-requires : tie.Need-jumped-requires Inv-loop μ-loop
 jumped-requires c κs =
-    let s = region c .forbidding-region .ensures .small in
-    near-end {low = region c .forbidding-region .result .area .low} {high = region c .forbidding-region .result .area .high}
+    let s = region c .region-at .ensures .small in
+    near-end {low = region c .region-at .result .area .low} {high = region c .region-at .result .area .high}
     (record { start = refl; end = c .turned-end3 .ensures }) (near-low s) (near-high s)
 
 advanced-requires : tie.Need-advanced-requires Inv-loop μ-loop
@@ -258,9 +254,9 @@ search-spec =
     new-requires
     loop-holds
     turned-point-requires
-    forbidding-region-requires
-    mul-t25
-    array-copy-out-t28
+    region-at-requires
+    mul-t27
+    array-copy-out-t30
     returns
     turned-end-requires-3
     jumped-requires

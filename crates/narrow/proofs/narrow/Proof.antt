@@ -3,6 +3,7 @@ use mathlib.Core.Path.{_≡_, ap, _∙_}
 use mathlib.Core.List.{List}
 use mathlib.Core.Option.{Option}
 use Prim.Native.Nat.{ℕ}
+use native.Mathlib.Omega.{arith}
 use denote.Ref.{now}
 use lib.IntN.{ℤ, pos, natAbs}
 use mir.Syntax.{w64}
@@ -75,18 +76,35 @@ row-place-requires c κs =
     let n = number e in
     (accepted-head _ _ w, accepted-rows _ _ w, rw (row-cast e) (n .from), rw (row-cast e) (n .upto))
 
+slice-aggregate-prepare : tie.Need-slice-aggregate-prepare
+slice-aggregate-prepare c = search needs
+
+prepare-requires : tie.Need-prepare-requires
+prepare-requires c κs = (accepted-block _ _ (row-accepted _ _ _ (not-refused (c .before .before .before)) .0), omega arith)
+
+slice-aggregate-narrow-row : tie.Need-slice-aggregate-narrow-row
+slice-aggregate-narrow-row c = search needs
+
 narrow-row-requires : tie.Need-narrow-row-requires
 narrow-row-requires c κs =
-    let w = row-accepted _ _ _ (not-refused (c .before .before .before)) .0 in
-    (accepted-block _ _ w, accepted-table _ _ w, c .before .row-place .ensures .0)
+    let p = c .before .before .before in
+    let r = p .before .before in
+    let w = row-accepted _ _ _ (not-refused (r .before .before)) .0 in
+    (accepted-block _ _ w, accepted-table _ _ w, r .row-place .ensures .0, p .prepare .ensures)
 
 -- what the row's narrowing found
-narrowed : (c : tie.After-narrow-row) → let b = s (c .before .before .before .before) in
-    (c .narrow-row .result ≡ stepAnswer (first b) (found b)) × (c .narrow-row .last .1 .0 ≡ valueOr (first b) (found b))
-narrowed c =
-    let e = c .before .before .before .before in
-    let q = c .before .before .row-place .ensures .1 ∙ row-cast e in
-    rw q at (c .narrow-row .ensures)
+module _ (c : tie.After-narrow-row) where
+  abbrev placed : tie.After-row-place
+  placed = c .before .before .before .before .before .before
+
+  abbrev passed : tie.Else1
+  passed = c .before .before .before .before .before .before .before .before
+
+  narrowed : (c .narrow-row .result ≡ stepAnswer (first (s passed)) (found (s passed))) × (c .narrow-row .last .1 .0 ≡ valueOr (first (s passed)) (found (s passed)))
+  narrowed =
+      let q = placed .row-place .ensures .1 ∙ row-cast passed in
+      let w = rw q at (c .narrow-row .ensures) in
+      (w .0, w .1)
 
 enum-told : tie.Need-enum-told
 enum-told c = search needs
@@ -103,8 +121,8 @@ same-length-2 c = search needs
 returns-2 : tie.Need-returns-2
 unfolding narrowing
 returns-2 c =
-    let r = c .before .before .before in
-    let e = r .before .before .before .before in
+    let r = c .before .before .before .before in
+    let e = passed r in
     narrow-step (first (s e)) (found (s e)) (not-refused e) (narrowed r) (c .enum-told .given .1)
 
 same-length-3 : tie.Need-same-length-3
@@ -113,8 +131,8 @@ same-length-3 c = search needs
 returns-3 : tie.Need-returns-3
 unfolding narrowing
 returns-3 c =
-    let r = c .before .before .before in
-    let e = r .before .before .before .before in
+    let r = c .before .before .before .before in
+    let e = passed r in
     narrow-step (first (s e)) (found (s e)) (not-refused e) (narrowed r) (c .enum-told2 .given .1)
 
 same-length-4 : tie.Need-same-length-4
@@ -123,8 +141,8 @@ same-length-4 c = search needs
 returns-4 : tie.Need-returns-4
 unfolding narrowing
 returns-4 c =
-    let r = c .before .before .before in
-    let e = r .before .before .before .before in
+    let r = c .before .before .before .before in
+    let e = passed r in
     narrow-step (first (s e)) (found (s e)) (not-refused e) (narrowed r) (c .enum-told3 .given .1)
 
 pub narrow-spec : {M : Type 1} → statement M
@@ -136,6 +154,9 @@ narrow-spec =
     returns
     cast-row-place
     row-place-requires
+    slice-aggregate-prepare
+    prepare-requires
+    slice-aggregate-narrow-row
     narrow-row-requires
     enum-told
     enum-told-2

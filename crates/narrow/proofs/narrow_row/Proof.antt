@@ -21,48 +21,62 @@ row-hull-requires c κs = search needs
 same-length : tie.Need-same-length
 same-length c = search needs
 
+same-length-2 : tie.Need-same-length-2
+same-length-2 c = search needs
+
 returns : tie.Need-returns
 returns c =
-    let h = c .before in
-    let s = h .before .before in
-    step-none (now (s .args .table))
+    let h = c .before .before in
+    let s = h .before .before .before in
+    let w = step-none (now (s .args .table))
     (narrow-none (lentOf (now (s .args .block))) (now (s .args .table)) (s .pre .1) (s .args .i .number) (s .pre .2 .from) (s .pre .2 .upto)
-    (sym (h .row-hull .ensures .kept) ∙ c .if1 .taken))
+    (sym (h .row-hull .ensures .0 .kept) ∙ c .if1 .taken)) in
+    (w .0, w .1, h .row-hull .ensures .1)
 
 write-row-requires : tie.Need-write-row-requires
 write-row-requires c κs = search needs
 
-same-length-2 : tie.Need-same-length-2
-same-length-2 c = search needs
+same-length-3 : tie.Need-same-length-3
+same-length-3 c = search needs
+
+same-length-4 : tie.Need-same-length-4
+same-length-4 c = search needs
 
 -- the words that are written are those of the narrowed row
-narrowed : (c : tie.After-write-row) → let h = c .before .before .before .before .before in let s = h .before .before in let x = h .row-hull .result in
+narrowed : (c : tie.After-write-row) → let h = c .before .before .before .before .before .before in let s = h .before .before .before in let x = h .row-hull .result in
     narrowOf (lentOf (now (s .args .block))) (now (s .args .table)) (s .args .i .number)
     ≡ some (replaced (now (s .args .table)) (rowAt (lentOf (now (s .args .block))) (s .args .i .number))
     (pos (x .shapes) ∷ pairsBelow (axes (lentOf (now (s .args .block)))) (word (x .low)) (word (x .high))))
 narrowed c =
     let b = c .before .before .before .before in
-    let h = b .before in
-    let s = h .before .before in
+    let h = b .before .before in
+    let s = h .before .before .before in
     let x = h .row-hull .result in
-    let w = h .row-hull .ensures in
+    let w = h .row-hull .ensures .0 in
     narrow-some (lentOf (now (s .args .block))) (now (s .args .table)) (s .pre .1) (s .args .i .number) (s .pre .2 .from) (s .pre .2 .upto)
     (x .shapes) (x .low) (x .high) (w .kept) (omega (arith, b .if1 .left)) (w .lows) (w .highs)
 
 returns-2 : tie.Need-returns-2
 returns-2 c =
     let w = c .before .before in
-    step-some (now (w .before .before .before .before .before .before .before .args .table)) (narrowed w) (w .write-row .ensures .0)
-    (not-true (sym (w .write-row .ensures .1) ∙ c .if2 .taken))
+    let h = w .before .before .before .before .before .before in
+    let x = step-some (now (h .before .before .before .args .table)) (narrowed w) (w .write-row .ensures .0)
+    (not-true (sym (w .write-row .ensures .1) ∙ c .if2 .taken)) in
+    (x .0, x .1, h .row-hull .ensures .1)
 
-same-length-3 : tie.Need-same-length-3
-same-length-3 c = search needs
+same-length-5 : tie.Need-same-length-5
+same-length-5 c = search needs
+
+same-length-6 : tie.Need-same-length-6
+same-length-6 c = search needs
 
 returns-3 : tie.Need-returns-3
 returns-3 c =
     let w = c .before .before in
-    step-some (now (w .before .before .before .before .before .before .before .args .table)) (narrowed w) (w .write-row .ensures .0)
-    (not-false (sym (w .write-row .ensures .1) ∙ c .if2 .left))
+    let h = w .before .before .before .before .before .before in
+    let x = step-some (now (h .before .before .before .args .table)) (narrowed w) (w .write-row .ensures .0)
+    (not-false (sym (w .write-row .ensures .1) ∙ c .if2 .left)) in
+    (x .0, x .1, h .row-hull .ensures .1)
 
 pub narrow-row-spec : {M : Type 1} → statement M
 narrow-row-spec =
@@ -70,9 +84,12 @@ narrow-row-spec =
     (tie.spec
     row-hull-requires
     same-length
+    same-length-2
     returns
     write-row-requires
-    same-length-2
-    returns-2
     same-length-3
+    same-length-4
+    returns-2
+    same-length-5
+    same-length-6
     returns-3)

@@ -78,23 +78,34 @@ module _ (f : tie.After-copy) where
   all : length work ≡ 288
   all = whole (f .copy .last .0) (replicate 288 (pos 0)) (length (t e)) long (short e) refl
 
+slice-aggregate-prepare : tie.Need-slice-aggregate-prepare
+slice-aggregate-prepare c = search needs
+
+prepare-requires : tie.Need-prepare-requires
+prepare-requires c κs = let f = c .before .before in (accepted-block (lent (e f)) (t (e f)) (passed (e f)), omega arith)
+
 array-borrow-prefix-work-2 : tie.Need-array-borrow-prefix-work-2
-array-borrow-prefix-work-2 c = omega (arith, all (c .before), short (e (c .before)))
+array-borrow-prefix-work-2 c = let f = c .before .before .before .before in omega (arith, all f, short (e f))
 
 slice-aggregate-settle-rows : tie.Need-slice-aggregate-settle-rows
-slice-aggregate-settle-rows c = sym (ap length (same (c .before .before)))
+slice-aggregate-settle-rows c = sym (ap length (same (c .before .before .before .before .before)))
+
+slice-aggregate-settle-rows-2 : tie.Need-slice-aggregate-settle-rows-2
+slice-aggregate-settle-rows-2 c = search needs
 
 settle-rows-requires : tie.Need-settle-rows-requires
 settle-rows-requires c κs =
-    let f = c .before .before in (
+    let p = c .before .before .before in
+    let f = p .before .before .before in (
       accepted-block (lent (e f)) (t (e f)) (passed (e f)),
       subst (Table (lent (e f))) (sym (same f)) (accepted-table (lent (e f)) (t (e f)) (passed (e f))),
+      p .prepare .ensures,
     )
 
 -- and from `settle_rows`
 module _ (g : tie.After-work4) where
   abbrev f : tie.After-copy
-  f = g .before .before .before .before
+  f = g .before .before .before .before .before .before .before .before
 
   abbrev left : List ℤ
   left = g .before .settle-rows .last .1 .0
@@ -113,18 +124,18 @@ same-length-2 : tie.Need-same-length-2
 same-length-2 c = search needs
 
 returns-2 : tie.Need-returns-2
-returns-2 c = answer-none (t (e (f (c .before)))) (passed (e (f (c .before)))) (found (c .before) .no (not-true (c .if2 .taken)))
+returns-2 c = let g = c .before .before in answer-none (t (e (f g))) (passed (e (f g))) (found g .no (not-true (c .if2 .taken)))
 
 array-share-prefix-work : tie.Need-array-share-prefix-work
 array-share-prefix-work c =
-    let g = c .before .before in
+    let g = c .before .before .before in
     omega (arith, short (e (f g)), whole (left g) (work (f g)) (length (t (e (f g)))) (left-long g) (short (e (f g))) (all (f g)))
 
 slice-aggregate-copy-2 : tie.Need-slice-aggregate-copy-2
-slice-aggregate-copy-2 c = let g = c .before .before .before in sym (ap length (front-left g) ∙ left-long g)
+slice-aggregate-copy-2 c = let g = c .before .before .before .before in sym (ap length (front-left g) ∙ left-long g)
 
 copy-requires-2 : tie.Need-copy-requires-2
-copy-requires-2 c κs = let g = c .before .before .before in sym (ap length (front-left g) ∙ left-long g)
+copy-requires-2 c κs = let g = c .before .before .before .before in sym (ap length (front-left g) ∙ left-long g)
 
 same-length-3 : tie.Need-same-length-3
 same-length-3 c = search needs
@@ -132,7 +143,7 @@ same-length-3 c = search needs
 returns-3 : tie.Need-returns-3
 returns-3 c =
     let d = c .before .before .before .before in
-    let g = d .before in
+    let g = d .before .before in
     let a = answer-some (t (e (f g))) (passed (e (f g))) (found g .yes (not-false (d .if2 .left))) in
     (a .0, c .before .copy2 .ensures ∙ front-left g ∙ a .1)
 
@@ -146,8 +157,11 @@ settle-spec =
     array-borrow-prefix-work
     slice-aggregate-copy
     copy-requires
+    slice-aggregate-prepare
+    prepare-requires
     array-borrow-prefix-work-2
     slice-aggregate-settle-rows
+    slice-aggregate-settle-rows-2
     settle-rows-requires
     same-length-2
     returns-2

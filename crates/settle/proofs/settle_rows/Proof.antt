@@ -6,11 +6,12 @@ use Prim.Native.Nat.{ℕ, _≤_, _<_}
 use native.Mathlib.Nat.{eq-or-lt-of-le}
 use native.Mathlib.Omega.{arith}
 use borrow.Author.Needs.{needs}
-use lib.ListN.{set, replicate, getD-replicate}
+use lib.ListN.{length, set, replicate, getD-replicate}
 use Rattle.integers.proofs.Booleans.{clash}
 use Rattle.sheet.specs.Layout.{Lent, lentOf, axes, rows}
 use Rattle.sheet.specs.Accepted.{Table}
 use Rattle.sheet.proofs.Accepted.{rows-same}
+use Rattle.nearby.specs.Listing.{Ready}
 use Rattle.settle.specs.Todo.{todo, OnTheWay, toGo}
 use Rattle.settle.proofs.Worked.{worked-start, worked-end}
 use Rattle.settle.proofs.Steps.{cleared, Turn, turn-none, turn-still, still-less, turn-moved, moved-less}
@@ -18,11 +19,12 @@ use Rattle.settle.proofs.settle_rows.Statement.{statement}
 use Rattle.settle.proofs.settle_rows.Tie as tie
 
 abbrev Inv-loop : tie.InvT-loop
-Inv-loop block table₀ n flags₀ at₀ table flags at =
+Inv-loop block table₀ list₀ n flags₀ at₀ table list flags at =
     OnTheWay (lentOf block) table₀ table flags × (n ≡ rows (lentOf block) table₀) × (at ≤ n)
+    × Ready (lentOf block) list × (length list ≡ length list₀)
 
 abbrev μ-loop : tie.MeasureT-loop
-μ-loop block table₀ n flags₀ at₀ table flags at = toGo (lentOf block) (rows (lentOf block) table₀) table flags
+μ-loop block table₀ list₀ n flags₀ at₀ table list flags at = toGo (lentOf block) (rows (lentOf block) table₀) table flags
 
 all-set : (m : ℕ) → m < 32 → todo (record { rows = replicate 32 true }) m ≡ true
 unfolding todo
@@ -52,7 +54,7 @@ not-last e = ⊎-elim (λ q. absurd (e .if1 .left q)) (λ h. h) (eq-or-lt-of-le 
 -- and was narrowed
 module _ (d : tie.After-narrow-row Inv-loop μ-loop) where
   abbrev e : tie.Else1 Inv-loop μ-loop
-  e = d .before .before .before .before
+  e = d .before .before .before .before .before
 
   abbrev l : tie.At-loop Inv-loop μ-loop
   l = e .before .before
@@ -65,8 +67,8 @@ module _ (d : tie.After-narrow-row Inv-loop μ-loop) where
         way = l .loop .inv .0;
         below = omega (arith, not-last e, l .loop .inv .1);
         few = s l .pre .1 .whole .few-rows;
-        row = d .before .before .row-place .result .number;
-        number = d .before .before .row-place .ensures .1;
+        row = d .before .before .before .row-place .result .number;
+        number = d .before .before .before .row-place .ensures .1;
         told = d .narrow-row .ensures .0;
         left = d .narrow-row .ensures .1;
       }
@@ -82,6 +84,8 @@ loop-holds c =
           (λ m h. all-set m (omega (arith, s .pre .1 .whole .few-rows))),
       c .rows-of .ensures,
       omega arith,
+      s .pre .2,
+      refl,
     )
 
 next-row-requires : tie.Need-next-row-requires Inv-loop μ-loop
@@ -89,6 +93,9 @@ next-row-requires c κs = (few c, c .loop .inv .2)
 
 same-length : tie.Need-same-length Inv-loop μ-loop
 same-length c = c .before .before .loop .inv .0 .way .good .as-long
+
+same-length-2 : tie.Need-same-length-2 Inv-loop μ-loop
+same-length-2 c = c .before .before .loop .inv .4
 
 returns : tie.Need-returns Inv-loop μ-loop
 returns c =
@@ -110,17 +117,21 @@ row-place-requires c κs =
 
 narrow-row-requires : tie.Need-narrow-row-requires Inv-loop μ-loop
 narrow-row-requires c κs =
-    let l = c .before .before .before .before .before in
-    (s l .pre .0, table l, c .before .row-place .ensures .0)
+    let r = c .before .before in
+    let l = r .before .before .before .before in
+    (s l .pre .0, table l, r .row-place .ensures .0, l .loop .inv .3)
 
 enum-told : tie.Need-enum-told Inv-loop μ-loop
 enum-told c = search needs
 
-same-length-2 : tie.Need-same-length-2 Inv-loop μ-loop
-same-length-2 c = c .before .before .table .given ∙ l (c .before .before .before) .loop .inv .0 .way .good .as-long
+same-length-3 : tie.Need-same-length-3 Inv-loop μ-loop
+same-length-3 c = c .before .before .before .table .given ∙ l (c .before .before .before .before) .loop .inv .0 .way .good .as-long
+
+same-length-4 : tie.Need-same-length-4 Inv-loop μ-loop
+same-length-4 c = c .before .before .list .given ∙ l (c .before .before .before .before) .loop .inv .4
 
 returns-2 : tie.Need-returns-2 Inv-loop μ-loop
-returns-2 c = record { yes = λ e. clash e refl; no = λ e. turn-none (turn (c .before .before .before)) (c .enum-told .given .1) }
+returns-2 c = record { yes = λ e. clash e refl; no = λ e. turn-none (turn (c .before .before .before .before)) (c .enum-told .given .1) }
 
 enum-told-2 : tie.Need-enum-told-2 Inv-loop μ-loop
 enum-told-2 c = search needs
@@ -129,14 +140,14 @@ enum-told-3 : tie.Need-enum-told-3 Inv-loop μ-loop
 enum-told-3 c = search needs
 
 touched-requires : tie.Need-touched-requires Inv-loop μ-loop
-touched-requires c κs = let d = c .before .before .before in (s (l d) .pre .0, not-last (e d), few (l d))
+touched-requires c κs = let d = c .before .before .before .before in (s (l d) .pre .0, not-last (e d), few (l d))
 
 element-write-flags : tie.Need-element-write-flags Inv-loop μ-loop
-element-write-flags c = let d = c .before .before in omega (arith, not-last (e d), few (l d))
+element-write-flags c = let d = c .before .before .before in omega (arith, not-last (e d), few (l d))
 
 loop-less : tie.Need-loop-less Inv-loop μ-loop
 loop-less c =
-    let d = c .before .before in
+    let d = c .before .before .before in
     ⊎-elim
     (λ a. still-less (turn d) (a .1 .given .1) (a .2) (e d .before .next-row .ensures .set (not-last (e d))))
     (λ a. moved-less (turn d) (a .1 .given .1) (cleared (c .match .flags) (e d .before .next-row .result)))
@@ -144,13 +155,15 @@ loop-less c =
 
 loop-again : tie.Need-loop-again Inv-loop μ-loop
 loop-again c =
-    let d = c .before .before in (
+    let d = c .before .before .before in (
       ⊎-elim
           (λ a. turn-still (turn d) (a .1 .given .1) (a .2))
           (λ a. turn-moved (turn d) (a .1 .given .1) (a .3) (l d .loop .inv .1) (a .2 .ensures))
           (c .match .came),
       l d .loop .inv .1,
       e d .before .next-row .ensures .upto,
+      d .narrow-row .ensures .2,
+      c .before .list .given ∙ l d .loop .inv .4,
     )
 
 pub settle-rows-spec : {M : Type 1} → statement M
@@ -163,12 +176,14 @@ settle-rows-spec =
     loop-holds
     next-row-requires
     same-length
+    same-length-2
     returns
     add-row-place
     row-place-requires
     narrow-row-requires
     enum-told
-    same-length-2
+    same-length-3
+    same-length-4
     returns-2
     enum-told-2
     enum-told-3

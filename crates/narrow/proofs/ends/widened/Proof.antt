@@ -14,10 +14,10 @@ use Rattle.narrow.proofs.ends.widened.Statement.{statement}
 use Rattle.narrow.proofs.ends.widened.Tie as tie
 
 abbrev Inv-loop : tie.InvT-loop
-Inv-loop block table i s cut first flip k out₀ d₀ out d = (d ≤ k) × (length out ≡ 4) × Ends (lentOf block) table (i .number) flip d (suc s) out
+Inv-loop block table list nearby i s cut first flip k out₀ d₀ out d = (d ≤ k) × (length out ≡ 4) × Ends (lentOf block) table (i .number) flip d (suc s) out
 
 abbrev μ-loop : tie.MeasureT-loop
-μ-loop block table i s cut first flip k out₀ d₀ out d = k - d
+μ-loop block table list nearby i s cut first flip k out₀ d₀ out d = k - d
 
 -- the dimension at hand is an axis
 below-axes : (c : tie.In-loop Inv-loop μ-loop) → c .before .loop .d < axes (lentOf (now (c .before .before .before .args .block)))
@@ -52,6 +52,8 @@ widened-end-requires c κs =
       rw (bits-back {z = word (l .before .loop .out) (l .before .loop .d)} (c .z .given))
           (ends-at (lentOf (now (s .args .block))) (now (s .args .table)) (s .args .i .number) (s .args .flip) (s .args .s) (l .before .loop .out) (l .before .loop .d)
           (below-axes l) (l .before .loop .inv .2)),
+      s .pre .8,
+      s .pre .9,
     )
 
 mul-out : tie.Need-mul-out Inv-loop μ-loop

@@ -18,7 +18,7 @@ use Rattle.region.specs.declared.Area.{Area}
 use Rattle.region.specs.Area.{inArea, Cuts}
 use Rattle.bounds.specs.Search.{Ahead, freeIn, coordinate}
 use Rattle.narrow.specs.Ends.{past-from, past-to, End}
-use Rattle.narrow.proofs.Widens.{none-free, found-at, found-none, end-ahead}
+use Rattle.narrow.proofs.Widens.{none-free, found-at, found-none, listed-part, end-ahead}
 use borrow.Author.Needs.{needs}
 use Rattle.narrow.proofs.ends.widened_end.Statement.{statement}
 use Rattle.narrow.proofs.ends.widened_end.Tie as tie
@@ -79,7 +79,16 @@ add-search c = search needs
 search-requires : tie.Need-search-requires
 search-requires c κs =
     let b = c .before in
-    (s b .pre .0, s b .pre .1, s b .pre .2, s b .pre .3, cuts b .small (s b .pre .6 .small), sym (tested b) ∙ not-false (c .if1 .left))
+    let a = s b .args in (
+      s b .pre .0,
+      s b .pre .1,
+      s b .pre .2,
+      s b .pre .3,
+      cuts b .small (s b .pre .6 .small),
+      sym (tested b) ∙ not-false (c .if1 .left),
+      s b .pre .8,
+      rw add-one (listed-part (lent b) (now (a .table)) (a .i .number) (suc (a .s)) (a .cut) (area b) (now (a .list)) (a .nearby) (cuts b) (s b .pre .9)),
+    )
 
 enum-known-y : tie.Need-enum-known-y
 enum-known-y c = search needs

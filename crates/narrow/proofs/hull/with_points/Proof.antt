@@ -66,6 +66,8 @@ widened-requires c κs =
       s .pre .5,
       rw (bits-back (c .lesser .ok) ∙ c .lesser .ensures
           ∙ ap₂ minZ (bits-back {z = word (s .args .hull .low) 0} (c .before .lesser-arg .given)) (toZ-ofZ (s .fits .least))) (first-end c),
+      s .pre .8,
+      s .pre .9,
     )
 
 widened-requires-2 : tie.Need-widened-requires-2
@@ -79,6 +81,8 @@ widened-requires-2 c κs =
       s .pre .4,
       s .pre .5,
       ends-start (lent s) (table s) (row s) true (s .args .s) (s .args .hull .high) (s .pre .6 .highs),
+      s .pre .8,
+      s .pre .9,
     )
 
 with-member-requires : tie.Need-with-member-requires

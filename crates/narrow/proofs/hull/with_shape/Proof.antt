@@ -63,10 +63,10 @@ module _ (c : tie.After-holds) where
   nothing x = hull-none (lent s) (table s) (row s) (s .args .s) (s .args .hull) (s .pre .4) (free-allowed (lent s) (table s) (row s) (next s) cut box none x)
 
 -- the search, and what it found
-found : (c : tie.After-search) (o : Option ℤ) → coordinate (c .search .result) ≡ o → let b = c .before .before in
+found : (c : tie.After-search) (o : Option ℤ) → coordinate (c .search .result) ≡ o → let b = c .before .before .before .before .before .before in
     Extreme (Ahead false) (freeIn (lent (s b)) (table (s b)) (row (s b)) (next (s b)) (cut b)) 0 o
 found c o e =
-    let b = c .before .before in
+    let b = c .before .before .before .before .before .before in
     subst (λ (x : Option ℤ). Extreme (Ahead false) (freeIn (lent (s b)) (table (s b)) (row (s b)) (next (s b)) (cut b)) 0 x) e (rw add-one at (c .search .ensures))
 
 add-has-shape : tie.Need-add-has-shape
@@ -77,9 +77,11 @@ has-shape-requires c κs = (c .pre .0 .head, c .pre .1 .whole, c .pre .2, set-co
 
 returns : tie.Need-returns
 returns c =
-    let s = c .before .before in
-    hull-skip (lent s) (table s) (row s) (s .args .s) (s .args .hull) (s .pre .4)
-    (λ p h a. clash h (rw add-one at (sym (c .before .has-shape .ensures) ∙ not-true (c .if1 .taken))))
+    let s = c .before .before in (
+      hull-skip (lent s) (table s) (row s) (s .args .s) (s .args .hull) (s .pre .4)
+          (λ p h a. clash h (rw add-one at (sym (c .before .has-shape .ensures) ∙ not-true (c .if1 .taken)))),
+      s .pre .5,
+    )
 
 axes-of-requires : tie.Need-axes-of-requires
 axes-of-requires c κs = search needs
@@ -96,24 +98,41 @@ holds-requires c κs = search needs
 returns-2 : tie.Need-returns-2
 returns-2 c =
     let b = c .before in
-    nothing b (none-free (lent (s b)) (table (s b)) (row (s b)) (next (s b)) (cut b) (sym (tested b) ∙ not-true (c .if2 .taken)))
+    (nothing b (none-free (lent (s b)) (table (s b)) (row (s b)) (next (s b)) (cut b) (sym (tested b) ∙ not-true (c .if2 .taken))), s b .pre .5)
+
+add-gather : tie.Need-add-gather
+add-gather c = search needs
+
+gather-requires : tie.Need-gather-requires
+gather-requires c κs = search needs
 
 add-search : tie.Need-add-search
 add-search c = search needs
 
 search-requires : tie.Need-search-requires
 search-requires c κs =
-    let b = c .before in
-    (s b .pre .0, s b .pre .1, s b .pre .2, omega (arith, s b .pre .0 .head .some-axes), box b .small, sym (tested b) ∙ not-false (c .if2 .left))
+    let g = c .before .before in
+    let e = g .before .before in
+    let b = e .before in (
+      s b .pre .0,
+      s b .pre .1,
+      s b .pre .2,
+      omega (arith, s b .pre .0 .head .some-axes),
+      box b .small,
+      sym (tested b) ∙ not-false (e .if2 .left),
+      g .gather .ensures .0,
+      g .gather .ensures .1,
+    )
 
 enum-known-least : tie.Need-enum-known-least
 enum-known-least c = search needs
 
 with-points-requires : tie.Need-with-points-requires
 with-points-requires c κs =
-    let m = c .before in
+    let m = c .before .before in
     let r = m .before .before in
-    let b = r .before .before in
+    let g = r .before .before .before in
+    let b = g .before .before .before in
     let f : SFits w64 (m .least .given .0 .0) = search needs in (
       s b .pre .0,
       s b .pre .1,
@@ -124,16 +143,27 @@ with-points-requires c κs =
       s b .pre .4,
       rw (toZ-ofZ f) (free-allowed (lent (s b)) (table (s b)) (row (s b)) (next (s b)) (cut b) (box b) (some (m .least .given .0 .0))
           (found r (some (m .least .given .0 .0)) (found-at _ _ (m .least .given .1)))),
+      g .gather .ensures .0,
+      rw add-one at (g .gather .ensures .1),
     )
 
 enum-told : tie.Need-enum-told
 enum-told c = search needs
 
+same-length : tie.Need-same-length
+same-length c = search needs
+
 returns-3 : tie.Need-returns-3
 returns-3 c = search needs
 
+same-length-2 : tie.Need-same-length-2
+same-length-2 c = search needs
+
 returns-4 : tie.Need-returns-4
-returns-4 c = let r = c .before .before in nothing (r .before .before) (found r none (found-none _ (c .enum-told .given .1)))
+returns-4 c =
+    let r = c .before .before in
+    let g = r .before .before .before in
+    (nothing (g .before .before .before) (found r none (found-none _ (c .enum-told .given .1))), g .gather .ensures .0)
 
 pub with-shape-spec : {M : Type 1} → statement M
 with-shape-spec =
@@ -147,10 +177,14 @@ with-shape-spec =
     cut-box-requires
     holds-requires
     returns-2
+    add-gather
+    gather-requires
     add-search
     search-requires
     enum-known-least
     with-points-requires
     enum-told
+    same-length
     returns-3
+    same-length-2
     returns-4)

@@ -1,0 +1,224 @@
+-- `listed_region` meets its contract: so far no entry forbids the point, and the first that does is the region. Assumes nothing.
+use mathlib.Core.Path.{_≡_, refl, sym, ap, _∙_}
+use mathlib.Core.Logic.{⊎-elim}
+use mathlib.Core.Bool.{Bool, true, false, _&&_}
+use mathlib.Core.List.{List}
+use Prim.Native.Nat.{ℕ, suc, _≤_, _<_, _-_}
+use native.Mathlib.Omega.{arith}
+use denote.Ref.{now}
+use lib.IntN.{ℤ}
+use lib.ListN.{length}
+use borrow.Author.Needs.{needs}
+use Rattle.integers.specs.Below.{anyBelow}
+use Rattle.integers.proofs.Booleans.{and-true, fails}
+use Rattle.integers.proofs.Below.{any-zero, false-any}
+use Rattle.sheet.specs.Layout.{Lent, lentOf, boxes, dims, isOf}
+use Rattle.sheet.specs.Allowed.{pairForbids, forbidden}
+use Rattle.sheet.proofs.Forbidden.{axis}
+use Rattle.region.specs.Area.{InField}
+use Rattle.forbid.specs.Pair.{PairPlaces}
+use Rattle.forbid.specs.Region.{noRegion}
+use Rattle.forbid.proofs.Regions.{cut-region, missed, forbids-by, none-more}
+use Rattle.nearby.specs.Listing.{entryAt, entryHolds, entryRule, entryRow, entryBox}
+use Rattle.nearby.proofs.Searches.{ownForbids, entryForbids, none-skip, none-met, missed-entry, pair-same}
+use Rattle.nearby.proofs.listed_region.Statement.{statement}
+use Rattle.nearby.proofs.listed_region.Tie as tie
+
+abbrev Inv-loop : tie.InvT-loop
+Inv-loop block table list i s p n count found₀ e r j c own₀ found own =
+    (own ≤ n) × (found ≡ found₀)
+    × (anyBelow own (λ b. ownForbids (lentOf block) table (i .number) s (r .number) (j .number) (c .number) b p) ≡ false)
+
+abbrev μ-loop : tie.MeasureT-loop
+μ-loop block table list i s p n count found₀ e r j c own₀ found own = n - own
+
+abbrev Inv-pairs : tie.InvT-pairs
+Inv-pairs block table list i s p n count found₀ e₀ found e =
+    (e ≤ count) × (found ≡ noRegion) × (anyBelow e (λ m. entryForbids (lentOf block) table (i .number) s list m p) ≡ false)
+
+abbrev μ-pairs : tie.MeasureT-pairs
+μ-pairs block table list i s p n count found₀ e₀ found e = count - e
+
+boxes-of-requires : tie.Need-boxes-of-requires Inv-loop μ-loop Inv-pairs μ-pairs
+boxes-of-requires c κs = c .pre .0 .block .head
+
+none-requires : tie.Need-none-requires Inv-loop μ-loop Inv-pairs μ-pairs
+none-requires c κs = tt
+
+pairs-holds : tie.Need-pairs-holds Inv-loop μ-loop Inv-pairs μ-pairs
+pairs-holds c = (omega arith, c .none .ensures, any-zero _)
+
+-- entry e lies in the list
+module _ (l : tie.In-pairs Inv-loop μ-loop Inv-pairs μ-pairs) where
+  abbrev top : tie.Start Inv-loop μ-loop Inv-pairs μ-pairs
+  top = l .before .before .before .before
+
+  room : entryAt (suc (l .before .pairs .e)) ≤ length (now (l .before .before .before .before .args .list))
+  room = omega (arith, top .pre .2 .fits, l .pairs-test .taken)
+
+entry-holds-requires : tie.Need-entry-holds-requires Inv-loop μ-loop Inv-pairs μ-pairs
+entry-holds-requires c κs = (top c .pre .0 .block .head, room c)
+
+rival-at-requires : tie.Need-rival-at-requires Inv-loop μ-loop Inv-pairs μ-pairs
+rival-at-requires c κs =
+    let l = c .before .before in
+    let p = top l .pre in
+    (p .0 .block, p .0 .table, room l, p .2 .entries _ (l .pairs-test .taken) .names)
+
+first-of-requires : tie.Need-first-of-requires Inv-loop μ-loop Inv-pairs μ-pairs
+first-of-requires c κs =
+    let p = top (c .before .before .before .before .before .before) .pre in
+    (p .1 .long, p .1 .index, p .4, p .5)
+
+loop-holds : tie.Need-loop-holds Inv-loop μ-loop Inv-pairs μ-pairs
+loop-holds c =
+    let x = c .before .before .before .before in
+    let l = x .before .before .before in
+    let a = top l .args in (
+      omega (arith, l .before .before .before .boxes-of .ensures, c .first-of .ensures .0),
+      refl,
+      false-any {f = λ b. ownForbids (lentOf (now (a .block))) (now (a .table)) (a .i .number) (a .s) (x .rival-at .result .r .number)
+          (x .rival-at .result .j .number) (x .rival-at .result .c .number) b (a .p)} (λ m h. rw (c .first-of .ensures .1 m h)),
+    )
+
+-- own box b
+module _ (c : tie.In-loop Inv-loop μ-loop Inv-pairs μ-pairs) where
+  abbrev rival : tie.After-rival-at Inv-loop μ-loop Inv-pairs μ-pairs
+  rival = c .before .before .before .before .before .before
+
+  abbrev line : tie.In-pairs Inv-loop μ-loop Inv-pairs μ-pairs
+  line = c .before .before .before .before .before .before .before .before .before
+
+  below : c .before .loop .own < boxes (lentOf (now (top line .args .block)))
+  below = omega (arith, line .before .before .before .boxes-of .ensures, c .loop-test .taken)
+
+box-place-requires : tie.Need-box-place-requires Inv-loop μ-loop Inv-pairs μ-pairs
+box-place-requires c κs = (top (line c) .pre .0 .block .head, below c)
+
+module _ (c : tie.After-box-place Inv-loop μ-loop Inv-pairs μ-pairs) where
+  abbrev s : tie.Start Inv-loop μ-loop Inv-pairs μ-pairs
+  s = top (line (c .before))
+
+  places : PairPlaces (lentOf (now (s .args .block))) (now (s .args .table))
+      (record {
+        r = rival (c .before) .rival-at .result .r;
+        i = s .args .i;
+        b = c .box-place .result;
+        j = rival (c .before) .rival-at .result .j;
+        c = rival (c .before) .rival-at .result .c;
+      })
+  places =
+      let x = rival (c .before) .rival-at .ensures in
+      record {
+        block = s .pre .0 .block;
+        table = s .pre .0 .table;
+        rule = x .0;
+        row = s .pre .0 .row;
+        own = c .box-place .ensures .0;
+        other-row = x .1;
+        other = x .2;
+      }
+
+own-forbids-requires : tie.Need-own-forbids-requires Inv-loop μ-loop Inv-pairs μ-pairs
+own-forbids-requires c κs = places c
+
+pair-area-requires : tie.Need-pair-area-requires Inv-loop μ-loop Inv-pairs μ-pairs
+pair-area-requires c κs = places (c .before .before)
+
+after-requires : tie.Need-after-requires Inv-loop μ-loop Inv-pairs μ-pairs
+after-requires c κs =
+    let b = c .before .before in
+    let p = s b .pre in
+    (p .0 .block, p .1 .long, p .1 .index, b .box-place .ensures .0, p .4, p .5)
+
+loop-less : tie.Need-loop-less Inv-loop μ-loop Inv-pairs μ-pairs
+loop-less c =
+    let b = c .before .before .before in
+    omega (arith, c .after .ensures .0, b .box-place .ensures .1, b .before .loop-test .taken)
+
+loop-again : tie.Need-loop-again Inv-loop μ-loop Inv-pairs μ-pairs
+loop-again c =
+    let f = c .before .before in
+    let b = f .before in
+    let l = b .before in
+    let a = s b .args in
+    let x = rival l .rival-at .result in
+    let e = b .box-place .ensures .1 in
+    let own : ℕ → Bool = λ m. ownForbids (lentOf (now (a .block))) (now (a .table)) (a .i .number) (a .s) (x .r .number) (x .j .number) (x .c .number) m (a .p) in (
+      omega (arith, c .after .ensures .1, line l .before .before .before .boxes-of .ensures),
+      l .before .loop .inv .1,
+      none-skip own (l .before .loop .inv .2) (ap own (sym e) ∙ sym (f .own-forbids .ensures) ∙ c .before .if2 .left)
+          (λ y h k. rw (c .after .ensures .2 y (omega (arith, e)) k)),
+    )
+
+add-e : tie.Need-add-e Inv-loop μ-loop Inv-pairs μ-pairs
+add-e c = omega arith
+
+pairs-less : tie.Need-pairs-less Inv-loop μ-loop Inv-pairs μ-pairs
+pairs-less c = omega arith
+
+pairs-again : tie.Need-pairs-again Inv-loop μ-loop Inv-pairs μ-pairs
+pairs-again c =
+    let h = c .before in
+    let l = h .before in
+    let a = top l .args in
+    let lent = lentOf (now (a .block)) in (
+      omega arith,
+      ⊎-elim (λ w. w .8 ∙ w .6 .inv .1 ∙ l .before .pairs .inv .1) (λ w. w .1 ∙ l .before .pairs .inv .1) (c .if1 .came),
+      none-more _ (l .before .pairs .inv .2)
+          (⊎-elim
+          (λ w. let x = w .1 .ensures in
+          missed-entry lent (now (a .table)) (a .i .number) (a .s) (now (a .list)) (l .before .pairs .e) (a .p) (x .3) (x .4) (x .5)
+          (omega (arith, w .6 .inv .0, w .7 .left, l .before .before .before .boxes-of .ensures)) (w .6 .inv .2))
+          (λ w. rw (sym (h .entry-holds .ensures) ∙ w .0 .left))
+          (c .if1 .came)),
+    )
+
+returns : tie.Need-returns Inv-loop μ-loop Inv-pairs μ-pairs
+returns c =
+    let l = c .before in
+    let s = l .before .before .before in
+    let q : l .pairs .e ≡ s .args .nearby .count = omega (arith, l .pairs .inv .0, c .pairs-test .left) in
+    missed (none-met _ _ _ _ _ (s .pre .2) (s .pre .3) (s .pre .0 .near) (rw q at (l .pairs .inv .2))) (l .pairs .inv .1)
+
+returns-2 : tie.Need-returns-2 Inv-loop μ-loop Inv-pairs μ-pairs
+returns-2 c =
+    let f = c .before .before in
+    let b = f .before in
+    let w = s b .pre in
+    let a = s b .args in
+    let lent = lentOf (now (a .block)) in
+    let l = line (b .before) in
+    let x = rival (b .before) .rival-at in
+    let h = and-true (sym (f .own-forbids .ensures) ∙ c .before .if2 .taken) in
+    forbids-by (λ q e. w .2 .entries (l .before .pairs .e) (l .pairs-test .taken) .sound .forbids (b .box-place .result .number) q
+    (places b .own .below) (h .0)
+    (pair-same lent (now (a .table)) (a .i .number) (a .s) (b .box-place .result .number) q (x .ensures .3) (x .ensures .4) (x .ensures .5) e)) refl
+    (cut-region (w .0 .block .head .few-axes) (w .0 .near) (h .1) (c .pair-area .ensures))
+
+pub listed-region-spec : {M : Type 1} → statement M
+listed-region-spec =
+    tie.close
+    (tie.spec
+    Inv-loop
+    μ-loop
+    Inv-pairs
+    μ-pairs
+    boxes-of-requires
+    none-requires
+    pairs-holds
+    entry-holds-requires
+    rival-at-requires
+    first-of-requires
+    loop-holds
+    box-place-requires
+    own-forbids-requires
+    pair-area-requires
+    after-requires
+    loop-less
+    loop-again
+    add-e
+    pairs-less
+    pairs-again
+    returns
+    returns-2)

@@ -1,0 +1,44 @@
+-- The hull of a shape: bounds that hold each of its boxes, and what a box of another row can forbid by them in one dimension.
+-- Assumes nothing.
+use mathlib.Core.Path.{_≡_}
+use mathlib.Core.Bool.{true}
+use mathlib.Core.List.{List}
+use Prim.Native.Nat.{ℕ, _<_}
+use lib.IntN.{ℤ, _+ℤ_}
+use lib.Signed.{_≤ℤ_}
+use Rattle.integers.specs.Integer.{within, Within}
+use Rattle.integers.specs.Below.{_⇒_}
+use Rattle.integers.specs.Words.{word}
+use Rattle.sheet.specs.Layout.{Lent, dims, boxes, isOf, offset, size, namesDim}
+use Rattle.sheet.specs.Allowed.{forbidFrom, forbidTo}
+use Rattle.region.specs.Area.{reach}
+use Rattle.nearby.specs.declared.hull.Hull.{Hull}
+use Rattle.nearby.specs.declared.side.Side.{Side}
+
+pub record Modest (h : Hull) : Type 0 where
+  pub starts : (d : ℕ) → Within 20000 (word (h .start) d)
+  pub ends : (d : ℕ) → Within 20000 (word (h .end) d)
+
+module _ (lent : Lent) where
+  -- box b lies in the hull in dimension d
+  pub record InHull (h : Hull) (b d : ℕ) : Type 0 where
+    pub starts : word (h .start) d ≤ℤ offset lent b d
+    pub ends : (offset lent b d +ℤ size lent b d) ≤ℤ word (h .end) d
+
+  -- g holds what h holds
+  pub record Widens (h g : Hull) : Type 0 where
+    pub keeps : (b d : ℕ) → InHull h b d → InHull g b d
+    pub modest : Modest h → Modest g
+
+  -- the boxes of shape s before box n lie in the hull
+  pub record HullTo (s n : ℕ) (h : Hull) : Type 0 where
+    pub modest : Modest h
+    pub holds : (b d : ℕ) → b < n → isOf lent b s ≡ true → d < dims lent → InHull h b d
+
+  -- the side holds every number that box c of row j forbids in dimension d to a box in the hull
+  pub record Reaches (t : List ℤ) (r j c : ℕ) (h : Hull) (d : ℕ) (x : Side) : Type 0 where
+    pub from-within : Within reach (x .from)
+    pub to-within : Within reach (x .to)
+    pub holds : (i b : ℕ) (z : ℤ) → InHull h b d → Within reach z
+        → (namesDim lent r d ⇒ within (forbidFrom lent t r i b j c d) (forbidTo lent t r i b j c d) z) ≡ true
+        → within (x .from) (x .to) z ≡ true

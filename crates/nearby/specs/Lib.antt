@@ -1,0 +1,5 @@
+pub mod Index
+pub mod Linked
+pub mod Counted
+pub mod Hull
+pub mod Listing

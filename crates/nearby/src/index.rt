@@ -1,0 +1,90 @@
+// The head of a list: the boxes of each shape, as a chain from the first to the next, so that no search passes over all boxes.
+ghost use mathlib.Core.Path.{_≡_};
+ghost use mathlib.Core.Bool.{false};
+ghost use Prim.Native.Nat.{ℕ, _+_, _<_, _≤_};
+ghost use lib.IntN.{pos};
+ghost use lib.ListN.{length, set};
+ghost use Rattle.integers.specs.Words.{word};
+ghost use Rattle.sheet.specs.Layout.{lentOf, boxes, isOf};
+ghost use Rattle.sheet.specs.Accepted.{Block};
+ghost use Rattle.words.specs.Places.{BoxPlace};
+ghost use Rattle.nearby.specs.Index.{firstAt, Index};
+ghost use Rattle.nearby.specs.Linked.{IndexFrom};
+use words::Place;
+
+// Writes a count of boxes.
+fn put(list: &mut [i64], at: usize, n: usize)
+    requires { ⌜ (at < length (now list)) × (n ≤ 128) ⌝ }
+    ensures { λ _. ⌜ now (list .exit) ≡ set (now (list .entry)) at (pos n) ⌝ }
+{
+    list[at] = n as i64;
+}
+
+// No shape has a box yet: the first box of each is n, the number of boxes.
+fn clear(list: &mut [i64], n: usize)
+    requires { ⌜ (161 ≤ length (now list)) × (n ≤ 128) ⌝ }
+    ensures { λ _. ⌜ (length (now (list .exit)) ≡ length (now (list .entry)))
+        × ((s : ℕ) → 1 ≤ s → s ≤ 32 → word (now (list .exit)) (firstAt s) ≡ pos n) ⌝ }
+{
+    let mut s = 1;
+    while s <= 32 {
+        put(list, 127 + s, n);
+        s += 1;
+    }
+}
+
+// Puts box b before the boxes of its shape that are linked already, those after b.
+fn link(block: &[i64], list: &mut [i64], b: usize)
+    requires { ⌜ Block (lentOf (now block)) × (161 ≤ length (now list)) × (b < boxes (lentOf (now block)))
+        × IndexFrom (lentOf (now block)) (now list) (b + 1) ⌝ }
+    ensures { λ _. ⌜ IndexFrom (lentOf (now (block .entry))) (now (list .exit)) b
+        × (length (now (list .exit)) ≡ length (now (list .entry))) ⌝ }
+{
+    let place = words::box_place(block, b);
+    let s = words::shape_number(block, place);
+    if 1 <= s && s <= 32 {
+        let first = words::count_at(list, 127 + s);
+        put(list, b, first);
+        put(list, 127 + s, b);
+    } else {
+        put(list, b, b + 1);
+    }
+}
+
+// Links the boxes of each shape, from the last box to the first.
+pub fn index(block: &[i64], list: &mut [i64])
+    requires { ⌜ Block (lentOf (now block)) × (161 ≤ length (now list)) ⌝ }
+    ensures { λ _. ⌜ Index (lentOf (now (block .entry))) (now (list .exit))
+        × (length (now (list .exit)) ≡ length (now (list .entry))) ⌝ }
+{
+    let n = words::boxes_of(block);
+    clear(list, n);
+    let mut b = n;
+    while b > 0 {
+        b -= 1;
+        link(block, list, b);
+    }
+}
+
+// No box before it is one of shape s; the number of boxes where there is none.
+pub fn first_of(block: &[i64], list: &[i64], s: usize) -> usize
+    requires { ⌜ (161 ≤ length (now list)) × Index (lentOf (now block)) (now list) × (1 ≤ s) × (s ≤ 32) ⌝ }
+    ensures { λ r. ⌜ (r ≤ boxes (lentOf (now (block .entry))))
+        × ((c : ℕ) → c < r → isOf (lentOf (now (block .entry))) c s ≡ false) ⌝ }
+{
+    words::count_at(list, 127 + s)
+}
+
+// A box after box b such that none between them is one of shape s; the number of boxes where there is none.
+pub fn after(block: &[i64], list: &[i64], b: Place, s: usize) -> usize
+    requires { ⌜ Block (lentOf (now block)) × (161 ≤ length (now list)) × Index (lentOf (now block)) (now list)
+        × BoxPlace (lentOf (now block)) b × (1 ≤ s) × (s ≤ 32) ⌝ }
+    ensures { λ r. ⌜ (b .number < r) × (r ≤ boxes (lentOf (now (block .entry))))
+        × ((c : ℕ) → b .number < c → c < r → isOf (lentOf (now (block .entry))) c s ≡ false) ⌝ }
+{
+    let at = b.number;
+    if words::box_is(block, b, s) {
+        return words::count_at(list, at);
+    }
+    at + 1
+}

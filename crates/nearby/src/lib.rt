@@ -1,0 +1,172 @@
+// What can forbid a row with a shape in an area: listed once, before the sweeps of that row and shape, and searched by each of them.
+mod adding;
+mod entry;
+mod hull;
+mod index;
+mod rules;
+mod side;
+
+ghost use mathlib.Core.Path.{_≡_};
+ghost use mathlib.Core.Bool.{true, _&&_};
+ghost use Prim.Native.Nat.{_≤_};
+ghost use lib.ListN.{length};
+ghost use Rattle.sheet.specs.Layout.{lentOf, axes, isOf};
+ghost use Rattle.sheet.specs.Allowed.{forbidden};
+ghost use Rattle.sheet.specs.Accepted.{Block, Table};
+ghost use Rattle.words.specs.Places.{RowPlace};
+ghost use Rattle.forbid.specs.Pair.{PairPlaces, forbiddenBy};
+ghost use Rattle.forbid.specs.Region.{Forbids, Asked};
+ghost use Rattle.nearby.specs.Listing.{Ready, Listed, ListedAt};
+use crate::entry::Query;
+use forbid::Region;
+use forbid::pair;
+use forbid::pair::Pair;
+use region::Area;
+use region::COORDINATES;
+use words::Place;
+
+// The words that a list begins with; a list has at least these.
+pub const HEAD: usize = 161;
+
+// How many words a caller lends for a list.
+pub const LIST: usize = 6101;
+
+// The entries of a list, and whether it holds every one that can forbid a point of its area.
+pub struct Nearby {
+    pub count: usize,
+    pub whole: bool,
+}
+
+// Makes a list ready: its head says which boxes each shape has, and which rules count.
+pub fn prepare(block: &[i64], list: &mut [i64])
+    requires { ⌜ Block (lentOf (now block)) × (161 ≤ length (now list)) ⌝ }
+    ensures { λ _. ⌜ Ready (lentOf (now (block .entry))) (now (list .exit)) ⌝ }
+{
+    index::index(block, list);
+    rules::count_rules(block, list);
+}
+
+// Lists what can forbid row i with shape s some point of the area.
+pub fn gather(
+    block: &[i64],
+    table: &[i64],
+    list: &mut [i64],
+    i: Place,
+    s: usize,
+    area: Area,
+) -> Nearby
+    requires { ⌜ Block (lentOf (now block)) × Table (lentOf (now block)) (now table) × RowPlace (lentOf (now block)) (now table) i
+        × Ready (lentOf (now block)) (now list) ⌝ }
+    ensures { λ r. ⌜ Ready (lentOf (now (block .entry))) (now (list .exit))
+        × Listed (lentOf (now (block .entry))) (now (table .entry)) (i .number) s area (now (list .exit)) r ⌝ }
+{
+    if s < 1 {
+        return Nearby {
+            count: 0,
+            whole: false,
+        };
+    }
+    if s > 32 {
+        return Nearby {
+            count: 0,
+            whole: false,
+        };
+    }
+    let hull = hull::hull_of(block, list, s);
+    let q = Query { i, s, hull, area };
+    let counted = words::set_at(list, 160);
+    let n = words::rules_of(block);
+    let mut found = Nearby {
+        count: 0,
+        whole: true,
+    };
+    let mut r = 0;
+    while r < n {
+        found = adding::add_rule(block, table, list, found, q, counted, r);
+        r += 1;
+    }
+    found
+}
+
+// What forbids p among the entries: one pair of boxes is enough.
+fn listed_region(
+    block: &[i64],
+    table: &[i64],
+    list: &[i64],
+    nearby: Nearby,
+    i: Place,
+    s: usize,
+    p: [i64; COORDINATES],
+) -> Region
+    requires { ⌜ Asked (lentOf (now block)) (now table) i p × Ready (lentOf (now block)) (now list)
+        × ListedAt (lentOf (now block)) (now table) (i .number) s (now list) nearby p × (nearby .whole ≡ true) × (1 ≤ s) × (s ≤ 32) ⌝ }
+    ensures { λ x. ⌜ Forbids (axes (lentOf (now (block .entry))))
+        (forbidden (lentOf (now (block .entry))) (now (table .entry)) (i .number) s) p x ⌝ }
+{
+    let n = words::boxes_of(block);
+    let count = nearby.count;
+    let mut found = Region::none();
+    let mut e = 0;
+    'pairs: while e < count {
+        if entry::entry_holds(block, list, e, p) {
+            let x = entry::rival_at(block, table, list, e);
+            let r = x.r;
+            let j = x.j;
+            let c = x.c;
+            let mut own = index::first_of(block, list, s);
+            while own < n {
+                let b = words::box_place(block, own);
+                let pair = Pair { r, i, b, j, c };
+                if own_forbids(block, table, pair, s, p) {
+                    found = Region {
+                        hit: true,
+                        area: pair::pair_area(block, table, pair),
+                    };
+                    break 'pairs;
+                }
+                own = index::after(block, list, b, s);
+            }
+        }
+        e += 1;
+    }
+    found
+}
+
+// Whether the pair forbids p, and its own box is one of shape s.
+fn own_forbids(block: &[i64], table: &[i64], pair: Pair, s: usize, p: [i64; COORDINATES]) -> bool
+    requires { ⌜ PairPlaces (lentOf (now block)) (now table) pair ⌝ }
+    ensures { λ x. ⌜ x ≡ (isOf (lentOf (now (block .entry))) (pair .b .number) s
+        && forbiddenBy (lentOf (now (block .entry))) (now (table .entry)) pair p) ⌝ }
+{
+    let b = pair.b;
+    if words::box_is(block, b, s) {
+        return pair::pair_forbids(block, table, pair, p);
+    }
+    false
+}
+
+// Whether row i with shape s is forbidden at p, a point of the list's area, and where it is, an area around p in which it is.
+pub fn region_at(
+    block: &[i64],
+    table: &[i64],
+    list: &[i64],
+    nearby: Nearby,
+    i: Place,
+    s: usize,
+    p: [i64; COORDINATES],
+) -> Region
+    requires { ⌜ Asked (lentOf (now block)) (now table) i p × Ready (lentOf (now block)) (now list)
+        × ListedAt (lentOf (now block)) (now table) (i .number) s (now list) nearby p ⌝ }
+    ensures { λ x. ⌜ Forbids (axes (lentOf (now (block .entry))))
+        (forbidden (lentOf (now (block .entry))) (now (table .entry)) (i .number) s) p x ⌝ }
+{
+    let whole = nearby.whole;
+    if whole {
+        if s >= 1 {
+            if s <= 32 {
+                return listed_region(block, table, list, nearby, i, s, p);
+            }
+        }
+    }
+    forbid::forbidding_region(block, table, i, s, p)
+}

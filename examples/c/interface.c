@@ -1,0 +1,190 @@
+/* Calls every function of zivokkal.h on good, other and refused input and compares what comes back with
+   document 01, worked out by hand. Prints the number of comparisons; exit status 1 on a difference. */
+#include <inttypes.h>
+#include <stdio.h>
+#include <string.h>
+
+#include "zivokkal.h"
+
+static int compared, differ;
+
+static void same(const char *what, int64_t expected, int64_t got)
+{
+    compared++;
+    if (expected != got) {
+        differ++;
+        printf("%s: expected %" PRId64 ", got %" PRId64 "\n", what, expected, got);
+    }
+}
+
+static void same_words(const char *what, const int64_t *expected, const int64_t *got, size_t words)
+{
+    same(what, 0, memcmp(expected, got, words * sizeof *got));
+}
+
+static void same_bound(const char *what, int64_t finding, int64_t value, struct zk_bound got)
+{
+    same(what, finding, got.finding);
+    same(what, value, got.value);
+}
+
+static void same_span(const char *what, int64_t start, int64_t length, struct zk_span got)
+{
+    same(what, start, got.start);
+    same(what, length, got.length);
+}
+
+/* k = 1: A is shape 1 of size 3, B is shape 2 of size 2; rows 1 and 2 do not overlap. No block below has more
+   than MOST words. */
+enum { BLOCK = 14, TABLE = 6, MOST = 17 };
+
+static const int64_t good[BLOCK] = {1, 2, 1,  1, 0, 3,  2, 0, 2,  1, 1, 3, 0, 0};
+
+static const int64_t wide[TABLE] = {1, 0, 0,  2, -2, 5};     /* A at 0, B in -2..5 */
+static const int64_t pushed[TABLE] = {1, 0, 0,  2, -1, 5};   /* B in -1..5 */
+static const int64_t blocked[TABLE] = {1, 0, 0,  2, -1, 2};  /* B in -1..2 */
+static const int64_t after[TABLE] = {1, 0, 0,  2, 3, 5};     /* pushed, settled */
+static const int64_t touching[TABLE] = {1, 0, 0,  2, 3, 3};
+static const int64_t overlapping[TABLE] = {1, 0, 0,  2, 2, 2};
+
+/* Every function on a sheet that it refuses: the number, and no word changed. */
+static void refused(const char *what, int64_t number, const int64_t *block, size_t block_len,
+                    const int64_t *table, size_t table_len)
+{
+    int64_t b[MOST], t[TABLE];
+    memcpy(b, block, block_len * sizeof *b);
+    memcpy(t, table, table_len * sizeof *t);
+    same(what, number, zk_refusal(b, block_len, t, table_len));
+    same(what, number, zk_point_allowed(b, block_len, t, table_len, 1, 1, 0, 0, 0, 0));
+    same(what, number, zk_check_placement(b, block_len, t, table_len));
+    same_bound(what, number, 0, zk_least(b, block_len, t, table_len, 1, 1, 0));
+    same_bound(what, number, 0, zk_greatest(b, block_len, t, table_len, 1, 1, 0));
+    same(what, number, zk_narrow(b, block_len, t, table_len, 1));
+    same(what, number, zk_settle(b, block_len, t, table_len));
+    same_span(what, 0, 0, zk_row_span(b, block_len, t, table_len, 1));
+    same_words(what, block, b, block_len);
+    same_words(what, table, t, table_len);
+}
+
+/* One word of the block, or of the table, is another. */
+static void refused_block(const char *what, int64_t number, int at, int64_t word)
+{
+    int64_t b[BLOCK];
+    memcpy(b, good, sizeof b);
+    b[at] = word;
+    refused(what, number, b, BLOCK, wide, TABLE);
+}
+
+static void refused_table(const char *what, int64_t number, int at, int64_t word)
+{
+    int64_t t[TABLE];
+    memcpy(t, wide, sizeof t);
+    t[at] = word;
+    refused(what, number, good, BLOCK, t, TABLE);
+}
+
+static void refusals(void)
+{
+    int64_t longer[BLOCK + 1] = {0};
+    memcpy(longer, good, sizeof good);
+    same("accepted", 0, zk_refusal(good, BLOCK, wide, TABLE));
+    refused("two words", 2, good, 2, wide, TABLE);
+    refused("no words", 2, good, 0, wide, 0);
+    refused_block("k 5", 2, 0, 5);
+    refused_block("B 129", 3, 1, 129);
+    refused_block("R 33", 3, 2, 33);
+    refused("a word too many", 4, longer, BLOCK + 1, wide, TABLE);
+    refused("half a row", 5, good, BLOCK, wide, TABLE - 1);
+    refused("no row", 5, good, BLOCK, wide, 0);
+    refused_block("size 0", 6, 5, 0);
+    refused_block("offset -10001", 6, 4, -10001);
+    refused_block("kind 3", 7, 9, 3);
+    refused_block("row 3 named", 7, 11, 4);
+    refused_table("low past high", 8, 4, 6);
+    refused_table("shape without a box", 8, 3, 4);
+}
+
+static void points(void)
+{
+    same("B at -2", 0, zk_point_allowed(good, BLOCK, wide, TABLE, 2, 2, -2, 9, 9, 9));
+    same("B at -1", -1, zk_point_allowed(good, BLOCK, wide, TABLE, 2, 2, -1, 0, 0, 0));
+    same("B at 2", -1, zk_point_allowed(good, BLOCK, wide, TABLE, 2, 2, 2, 0, 0, 0));
+    same("B at 3", 0, zk_point_allowed(good, BLOCK, wide, TABLE, 2, 2, 3, 0, 0, 0));
+    same("B out of its range", -1, zk_point_allowed(good, BLOCK, wide, TABLE, 2, 2, 6, 0, 0, 0));
+    same("row 3", 9, zk_point_allowed(good, BLOCK, wide, TABLE, 3, 2, 0, 0, 0, 0));
+    same("row 2 has no shape 1", 10, zk_point_allowed(good, BLOCK, wide, TABLE, 2, 1, 3, 0, 0, 0));
+    same("row 1 has no shape 2", 10, zk_point_allowed(good, BLOCK, wide, TABLE, 1, 2, 0, 0, 0, 0));
+    same("touching", 0, zk_check_placement(good, BLOCK, touching, TABLE));
+    same("overlapping", -1, zk_check_placement(good, BLOCK, overlapping, TABLE));
+    same("not fixed", 12, zk_check_placement(good, BLOCK, wide, TABLE));
+}
+
+static void bounds(void)
+{
+    same_bound("least of -2..5", 0, -2, zk_least(good, BLOCK, wide, TABLE, 2, 2, 0));
+    same_bound("least of -1..5", 0, 3, zk_least(good, BLOCK, pushed, TABLE, 2, 2, 0));
+    same_bound("least of -1..2", -1, 0, zk_least(good, BLOCK, blocked, TABLE, 2, 2, 0));
+    same_bound("greatest of -2..5", 0, 5, zk_greatest(good, BLOCK, wide, TABLE, 2, 2, 0));
+    same_bound("greatest of -1..2", -1, 0, zk_greatest(good, BLOCK, blocked, TABLE, 2, 2, 0));
+    same_bound("row 0", 9, 0, zk_least(good, BLOCK, wide, TABLE, 0, 2, 0));
+    same_bound("shape 33", 10, 0, zk_least(good, BLOCK, wide, TABLE, 2, 33, 0));
+    same_bound("dimension 1", 11, 0, zk_least(good, BLOCK, wide, TABLE, 2, 2, 1));
+    same_bound("dimension -1", 11, 0, zk_greatest(good, BLOCK, wide, TABLE, 2, 2, -1));
+    same_span("row 1", 0, 3, zk_row_span(good, BLOCK, wide, TABLE, 1));
+    same_span("row 2", 3, 3, zk_row_span(good, BLOCK, wide, TABLE, 2));
+    same_span("row 3", 0, 0, zk_row_span(good, BLOCK, wide, TABLE, 3));
+}
+
+static void narrows(const char *what, const int64_t *table, int64_t row, int64_t finding, const int64_t *left)
+{
+    int64_t b[BLOCK], t[TABLE];
+    memcpy(b, good, sizeof b);
+    memcpy(t, table, sizeof t);
+    same(what, finding, zk_narrow(b, BLOCK, t, TABLE, row));
+    same_words(what, left, t, TABLE);
+    same_words(what, good, b, BLOCK);
+}
+
+static void settles(const char *what, const int64_t *block, size_t block_len, const int64_t *table,
+                    int64_t finding, const int64_t *left)
+{
+    int64_t b[MOST], t[TABLE];
+    memcpy(b, block, block_len * sizeof *b);
+    memcpy(t, table, sizeof t);
+    same(what, finding, zk_settle(b, block_len, t, TABLE));
+    same_words(what, left, t, TABLE);
+    same_words(what, block, b, block_len);
+}
+
+/* Two rows of size 2 in a room 0 to 3 and in a room 0 to 4; and B of size 2 (shape 2) or 1 (shape 3) in
+   -1..2. */
+static void changes(void)
+{
+    static const int64_t room3[] = {1, 1, 2,  1, 0, 2,  1, 1, 3, 0, 0,  2, 1, 3, 0, 3};
+    static const int64_t room4[] = {1, 1, 2,  1, 0, 2,  1, 1, 3, 0, 0,  2, 1, 3, 0, 4};
+    static const int64_t tight[TABLE] = {1, 0, 1,  1, 0, 1};
+    static const int64_t loose[TABLE] = {1, 0, 2,  1, 0, 2};
+    static const int64_t sizes[MOST] = {1, 3, 1,  1, 0, 3,  2, 0, 2,  3, 0, 1,  1, 1, 3, 0, 0};
+    static const int64_t either[TABLE] = {1, 0, 0,  6, -1, 2};
+    static const int64_t smaller[TABLE] = {1, 0, 0,  4, -1, -1};
+    narrows("narrowed", pushed, 2, 0, after);
+    narrows("narrowed, no word moved", wide, 2, 0, wide);
+    narrows("no place", blocked, 2, -1, blocked);
+    narrows("narrow row 3", pushed, 3, 9, pushed);
+    narrows("narrow row 0", pushed, 0, 9, pushed);
+    settles("settled", good, BLOCK, pushed, 0, after);
+    settles("no layout", good, BLOCK, blocked, -1, blocked);
+    settles("room 0 to 3", room3, 16, tight, -1, tight);
+    settles("room 0 to 4", room4, 16, loose, 0, loose);
+    settles("size 2 or 1", sizes, MOST, either, 0, smaller);
+}
+
+int main(void)
+{
+    refusals();
+    points();
+    bounds();
+    changes();
+    printf("%d comparisons, %d differ\n", compared, differ);
+    return differ ? 1 : 0;
+}

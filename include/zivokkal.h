@@ -1,0 +1,137 @@
+/* The C interface of the placement kernel. Link target/staticlib/libcapi.a, which `rt staticlib capi`
+   writes for x86-64 Linux. Every function is proved to give what this page says, on any words of any
+   length (crates/capi/src/lib.rt); what the caller must see to is under "Pointers" below.
+
+   A sheet is two runs of 64-bit words that the caller lends, the block and the table. Outlines are made
+   of boxes on a grid of whole numbers in k dimensions. Rows and shapes count from 1, dimensions from 0.
+
+   The block: boxes and rules
+
+     k, B, R                         dimensions 1 to 4, boxes 1 to 128, rules 0 to 32
+     then B boxes of 1 + 2k words    shape 1 to 32; k offsets, -10,000 to 10,000; k sizes, 1 to 10,000
+     then R rules of 3 + 2k words    kind; dimension set; row set; low and high for each dimension
+
+   A shape is all boxes with its number; they may overlap. In a dimension set bit d stands for dimension
+   d, in a row set bit i - 1 for row i; neither is empty, and bits past k and past n are 0.
+   Kind 1: no two of the named rows overlap, the test being made in the named dimensions only; all low
+   and high words are 0. Kind 2: each named row lies from low to high in each named dimension, -1,000,000
+   to 1,000,000, low <= high; the words of the other dimensions are 0.
+   Its length is 3 + B(1 + 2k) + R(3 + 2k) words, at most ZK_BLOCK_WORDS.
+
+   The table: the rows to place
+
+     n rows of 1 + 2k words, n from 1 to 32    shape set; low and high for each dimension
+
+   In a shape set bit s - 1 stands for shape s: the shapes still open for the row; it is not empty, and
+   each shape in it has a box. Low to high, -1,000,000 to 1,000,000, low <= high, is the range of the
+   row's origin, to which the offsets of its boxes are added. Its length is n(1 + 2k) words, at most
+   ZK_TABLE_WORDS.
+
+   Allowed: a row, with a shape, is allowed at a point when the point lies in the row's ranges, every
+   kind 2 rule that names the row holds there, and no kind 1 rule that names it forbids the point. One
+   does when a box of the row, there, would overlap one and the same box of another named row wherever in
+   its ranges that row ends up. A row with several open shapes forbids nothing. Boxes that touch do not
+   overlap.
+
+   Findings
+
+      0   the good answer, which each function names
+     -1   the other answer
+      2   the block has fewer than 3 words, or k is outside 1 to 4
+      3   B or R is outside its range
+      4   the block's length is not the one above
+      5   the table's length is not the one above
+      6   a box breaks a range above
+      7   a rule breaks a condition above
+      8   a row of the table breaks a condition above
+      9   the row asked about is outside 1 to n
+     10   the shape asked about is not in that row's set
+     11   the dimension asked about is outside 0 to k - 1
+     12   a placement to be checked is not fixed: some range has several numbers or some set several shapes
+
+   2 to 12 are refusals; the first that applies is given, in this order. 1 is the refusal of a text and
+   is never given here. Every function makes the checks 2 to 8 itself, so zk_refusal need not be called
+   first.
+
+   What is written: the block never; the table by zk_narrow and zk_settle only, and only when they find
+   0. With -1 or a refusal every word is as it was.
+
+   Pointers: block and table point to as many words as their length says, aligned as int64_t is, and are
+   not null, not even with a length of 0. In zk_narrow and zk_settle the two may not overlap. No other
+   thread may write the words during a call, and in zk_narrow and zk_settle none may read the table.
+   Nothing else is asked: words and numbers may have any value.
+
+   There is no global state, no memory is allocated and no pointer is kept, so calls on different tables
+   may run in different threads at once, also over one block. No function recurses; the deepest call,
+   zk_settle, used 4 KB of stack where it was measured, and 64 KB leave room for changes.
+
+   Time: every call ends, but there is no limit to it that helps in practice, and a call cannot be
+   interrupted. Ordinary sheets settle in microseconds to a tenth of a second. A sheet that is made for
+   it can make one search visit a number of points that grows as the fourth power of the number of boxes
+   (k = 4), and rows can push each other one unit at a time over the whole of their ranges. Where sheets
+   come from outside, call from a thread or a process that can be left. */
+#ifndef ZIVOKKAL_H
+#define ZIVOKKAL_H
+
+#include <stddef.h>
+#include <stdint.h>
+
+#ifdef __cplusplus
+extern "C" {
+#endif
+
+/* The most words of a block and of a table that is not refused. */
+#define ZK_BLOCK_WORDS 1507
+#define ZK_TABLE_WORDS 288
+
+/* 0: the sheet is accepted. Never -1. Refusals 2 to 8. */
+int64_t zk_refusal(const int64_t *block, size_t block_len, const int64_t *table, size_t table_len);
+
+/* 0: the row is allowed at the point (p0, p1, p2, p3) with the shape. -1: it is not, also where the point
+   lies outside the row's ranges. Coordinates from p_k on are ignored. Refusals 2 to 10. */
+int64_t zk_point_allowed(const int64_t *block, size_t block_len, const int64_t *table, size_t table_len,
+                         int64_t row, int64_t shape, int64_t p0, int64_t p1, int64_t p2, int64_t p3);
+
+/* A fixed placement is a table in which each range has one number and each set one shape.
+   0: it is good, each row is allowed where it stands. -1: it is not good. Refusals 2 to 8 and 12. */
+int64_t zk_check_placement(const int64_t *block, size_t block_len, const int64_t *table, size_t table_len);
+
+/* The least, or the greatest, coordinate in the dimension of the points at which the row is allowed with
+   the shape. 0: value is that coordinate. -1: it is allowed at no point. Refusals 2 to 11. With -1 and
+   with a refusal value is 0. */
+struct zk_bound {
+    int64_t finding;
+    int64_t value;
+};
+
+struct zk_bound zk_least(const int64_t *block, size_t block_len, const int64_t *table, size_t table_len,
+                         int64_t row, int64_t shape, int64_t dimension);
+
+struct zk_bound zk_greatest(const int64_t *block, size_t block_len, const int64_t *table, size_t table_len,
+                            int64_t row, int64_t shape, int64_t dimension);
+
+/* 0: narrowed, also when no word changed: the row's ranges are the smallest that hold all its allowed
+   points over all its shapes, and its set has the shapes with such a point; the other rows keep their
+   words. -1: no place, the row is allowed at no point. Refusals 2 to 9. */
+int64_t zk_narrow(const int64_t *block, size_t block_len, int64_t *table, size_t table_len, int64_t row);
+
+/* 0: settled: the rows are narrowed until nothing moves; the table is the same in whatever order that is
+   done. -1: no layout, some row has no place left. A settled table need not contain a layout; for a fixed
+   placement ask zk_check_placement. Refusals 2 to 8. */
+int64_t zk_settle(const int64_t *block, size_t block_len, int64_t *table, size_t table_len);
+
+/* Where the row stands in its table: table[start] to table[start + length - 1], its shape set first. When
+   refused both are 0: zk_refusal gives 2 to 8, and where it gives 0 the refusal was 9. */
+struct zk_span {
+    int64_t start;
+    int64_t length;
+};
+
+struct zk_span zk_row_span(const int64_t *block, size_t block_len, const int64_t *table, size_t table_len,
+                           int64_t row);
+
+#ifdef __cplusplus
+}
+#endif
+
+#endif

@@ -4,16 +4,17 @@ use mathlib.Core.Path.{_≡_, sym, ap, subst}
 use mathlib.Core.Bool.{Bool, true, false, cond}
 use mathlib.Core.List.{List}
 use mathlib.Core.Option.{none, some}
-use Prim.Native.Nat.{ℕ, suc, _+_, _^_, _≤_, _<_}
+use Prim.Native.Nat.{ℕ, zero, suc, _+_, _^_, _≤_, _<_}
 use native.Mathlib.Omega.{arith}
 use lib.IntN.{ℤ, pos}
 use lib.ListN.{replicate, getD-replicate}
-use Rattle.integers.specs.Integer.{minus}
-use Rattle.integers.specs.Bits.{setOf}
+use Rattle.integers.specs.Integer.{minus, nat}
+use Rattle.integers.specs.Bits.{setOf, holds}
 use Rattle.integers.specs.Words.{word}
-use Rattle.integers.proofs.Booleans.{fails, and-true, true-and}
+use Rattle.integers.proofs.Bits.{bit-past}
+use Rattle.integers.proofs.Booleans.{clash, fails, and-true, true-and}
 use Rattle.integers.proofs.Sets.{setOf-zero, setOf-below}
-use Rattle.sheet.specs.Layout.{Lent, axes, hasShape}
+use Rattle.sheet.specs.Layout.{Lent, axes, shapeSet, hasShape}
 use Rattle.sheet.specs.Allowed.{allowed}
 use Rattle.sheet.specs.Bounds.{Extreme, Least, nowhere, there}
 use Rattle.sheet.specs.Narrow.{keepsShape}
@@ -66,3 +67,14 @@ module _ (lent : Lent) (t : List ℤ) (i : ℕ) where
         let m = set-more s true (true-and held
         (met lent t i (allowed lent t i (suc s)) (λ p r a. allowed-agree lent t p r a i (suc s)) q (allowed-parts lent t i (suc s) q e .0) e)) in
         record { kept = omega (arith, k, m, x .kept); lows = lows; highs = highs }
+
+  past-set : {s : ℕ} (m : ℕ) → nat (shapeSet lent t i) < 2 ^ s → s ≤ m → hasShape lent t i (suc m) ≡ false
+  unfolding hasShape holds
+  past-set m below l = bit-past (shapeSet lent t i) below l
+
+  -- no shape of the row's set is past s
+  pub hull-rest : (s : ℕ) (h : Hull) → nat (shapeSet lent t i) < 2 ^ s → HullTo lent t i s h → (k : ℕ) → HullTo lent t i (s + k) h
+  hull-rest s h below x zero = let q : s ≡ s + 0 = omega arith in subst (λ (n : ℕ). HullTo lent t i n h) q x
+  hull-rest s h below x (suc k) =
+      let q : suc (s + k) ≡ s + suc k = omega arith in
+      subst (λ (n : ℕ). HullTo lent t i n h) q (hull-skip (s + k) h (hull-rest s h below x k) (λ p held a. clash held (past-set (s + k) below (omega arith))))

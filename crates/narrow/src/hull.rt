@@ -9,7 +9,6 @@ ghost use Rattle.sheet.specs.Bounds.{Least};
 ghost use mathlib.Core.Option.{some};
 ghost use Rattle.sheet.specs.Accepted.{Block, Table};
 ghost use Rattle.words.specs.Places.{RowPlace};
-ghost use Rattle.region.specs.Area.{minZ};
 ghost use Rattle.region.specs.Rooms.{CutBox};
 ghost use Rattle.nearby.specs.Listing.{Ready, Listed};
 ghost use Rattle.narrow.specs.Hulls.{HullTo};
@@ -37,12 +36,6 @@ fn with_member(set: u32, s: usize) -> u32
     set + (1 << s)
 }
 
-fn lesser(a: i64, b: i64) -> i64
-    ensures { λ r. ⌜ r ≡ minZ a b ⌝ }
-{
-    if a <= b { a } else { b }
-}
-
 // The hull of the shapes up to s and of shape s + 1, whose cut box has the list and whose least coordinate in dimension 0 is known.
 fn with_points(
     block: &[i64],
@@ -64,7 +57,7 @@ fn with_points(
     ensures { λ r. ⌜ HullTo (lentOf (now (block .entry))) (now (table .entry)) (i .number) (suc s) r ⌝ }
 {
     let mut first = hull.low;
-    first[0] = lesser(first[0], least);
+    first[0] = region::lesser(first[0], least);
     let low = ends::widened(block, table, list, nearby, i, s, cut, first, 1, false);
     let last = hull.high;
     let high = ends::widened(block, table, list, nearby, i, s, cut, last, 0, true);
@@ -103,13 +96,22 @@ fn with_shape(
     }
 }
 
-// The hull of every shape of row i.
+// Whether every member of the set is below s.
+fn is_below(set: u32, s: usize) -> bool
+    requires { ⌜ s < 32 ⌝ }
+    ensures { λ r. ⌜ (r ≡ true → set < 2 ^ s) ⌝ }
+{
+    set >> s == 0
+}
+
+// The hull of every shape of row i: no further than the last of its set.
 pub fn row_hull(block: &[i64], table: &[i64], list: &mut [i64], i: Place) -> Hull
     requires { ⌜ Block (lentOf (now block)) × Table (lentOf (now block)) (now table) × RowPlace (lentOf (now block)) (now table) i
         × Ready (lentOf (now block)) (now list) ⌝ }
     ensures { λ r. ⌜ HullTo (lentOf (now (block .entry))) (now (table .entry)) (i .number) 32 r
         × Ready (lentOf (now (block .entry))) (now (list .exit)) ⌝ }
 {
+    let set = words::shapes_of(block, table, i);
     let low = [NOWHERE; COORDINATES];
     let high = [-NOWHERE; COORDINATES];
     let mut hull = Hull {
@@ -119,6 +121,9 @@ pub fn row_hull(block: &[i64], table: &[i64], list: &mut [i64], i: Place) -> Hul
     };
     let mut s = 0;
     while s < 32 {
+        if is_below(set, s) {
+            return hull;
+        }
         hull = with_shape(block, table, list, i, s, hull);
         s += 1;
     }

@@ -1,0 +1,88 @@
+-- `trial::brute::put_row` is safe and ends: d runs up to k. Assumes nothing.
+use mathlib.Core.Path.{_≡_}
+use Prim.Native.Nat.{_≤_, _-_}
+use lib.ListN.{length}
+use borrow.Author.Needs.{needs}
+use Rattle.trial.proofs.brute.put_row.Statement.{statement}
+use Rattle.trial.proofs.brute.put_row.Tie as tie
+
+abbrev Inv-loop : tie.InvT-loop
+Inv-loop block table₀ i k at low high d₀ table d = (d ≤ k) × (length table ≡ length table₀)
+
+abbrev μ-loop : tie.MeasureT-loop
+μ-loop block table₀ i k at low high d₀ table d = k - d
+
+dims-requires : tie.Need-dims-requires Inv-loop μ-loop
+dims-requires c κs = search needs
+
+row-place-requires : tie.Need-row-place-requires Inv-loop μ-loop
+row-place-requires c κs = search needs
+
+put-requires : tie.Need-put-requires Inv-loop μ-loop
+put-requires c κs = search needs
+
+loop-holds : tie.Need-loop-holds Inv-loop μ-loop
+loop-holds c = search needs
+
+place-requires : tie.Need-place-requires Inv-loop μ-loop
+place-requires c κs = search needs
+
+plus-requires : tie.Need-plus-requires Inv-loop μ-loop
+plus-requires c κs = search needs
+
+coordinate-requires : tie.Need-coordinate-requires Inv-loop μ-loop
+coordinate-requires c κs = search needs
+
+put-requires-2 : tie.Need-put-requires-2 Inv-loop μ-loop
+put-requires-2 c κs = search needs
+
+place-requires-2 : tie.Need-place-requires-2 Inv-loop μ-loop
+place-requires-2 c κs = search needs
+
+plus-requires-2 : tie.Need-plus-requires-2 Inv-loop μ-loop
+plus-requires-2 c κs = search needs
+
+coordinate-requires-2 : tie.Need-coordinate-requires-2 Inv-loop μ-loop
+coordinate-requires-2 c κs = search needs
+
+put-requires-3 : tie.Need-put-requires-3 Inv-loop μ-loop
+put-requires-3 c κs = search needs
+
+add-d : tie.Need-add-d Inv-loop μ-loop
+add-d c = search needs
+
+loop-less : tie.Need-loop-less Inv-loop μ-loop
+loop-less c = search needs
+
+loop-again : tie.Need-loop-again Inv-loop μ-loop
+loop-again c = search needs
+
+same-length : tie.Need-same-length Inv-loop μ-loop
+same-length c = search needs
+
+returns : tie.Need-returns Inv-loop μ-loop
+returns c = search needs
+
+pub put-row-spec : {M : Type 1} → statement M
+put-row-spec =
+    tie.close
+    (tie.spec
+    Inv-loop
+    μ-loop
+    dims-requires
+    row-place-requires
+    put-requires
+    loop-holds
+    place-requires
+    plus-requires
+    coordinate-requires
+    put-requires-2
+    place-requires-2
+    plus-requires-2
+    coordinate-requires-2
+    put-requires-3
+    add-d
+    loop-less
+    loop-again
+    same-length
+    returns)

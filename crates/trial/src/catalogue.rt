@@ -1,0 +1,97 @@
+// Whether a fixed placement is good: room rules by document 01, non-overlap by the catalogue (document 003). It shares no code with the
+// kernel, and what document 01 says of forbidden points is not used.
+use super::brute;
+use super::brute::last_shape;
+use super::layout;
+use super::numbers::sum;
+
+// In dimension d box b of row i starts at or past the end of box c of row j.
+fn is_past(block: &[i64], table: &[i64], i: usize, b: usize, j: usize, c: usize, d: usize) -> bool {
+    let start = sum(layout::low(block, table, i, d), layout::offset(block, b, d));
+    let other = sum(layout::low(block, table, j, d), layout::offset(block, c, d));
+    start >= sum(other, layout::size(block, c, d))
+}
+
+// Some named dimension parts the two boxes.
+fn boxes_apart(
+    block: &[i64],
+    table: &[i64],
+    r: usize,
+    i: usize,
+    b: usize,
+    j: usize,
+    c: usize,
+) -> bool {
+    let k = layout::dims(block);
+    for d in 0..k {
+        if layout::names_dim(block, r, d)
+            && (is_past(block, table, i, b, j, c, d) || is_past(block, table, j, c, i, b, d))
+        {
+            return true;
+        }
+    }
+    false
+}
+
+fn box_apart(block: &[i64], table: &[i64], r: usize, i: usize, b: usize, j: usize) -> bool {
+    let s = last_shape(layout::shape_set(block, table, j));
+    let n = layout::boxes(block);
+    for c in 0..n {
+        if layout::is_of(block, c, s) && !boxes_apart(block, table, r, i, b, j, c) {
+            return false;
+        }
+    }
+    true
+}
+
+fn rows_apart(block: &[i64], table: &[i64], r: usize, i: usize, j: usize) -> bool {
+    let s = last_shape(layout::shape_set(block, table, i));
+    let n = layout::boxes(block);
+    for b in 0..n {
+        if layout::is_of(block, b, s) && !box_apart(block, table, r, i, b, j) {
+            return false;
+        }
+    }
+    true
+}
+
+// Row i and each row before it.
+fn row_apart(block: &[i64], table: &[i64], r: usize, i: usize) -> bool {
+    for j in 0..i {
+        if layout::names_row(block, r, j) && !rows_apart(block, table, r, i, j) {
+            return false;
+        }
+    }
+    true
+}
+
+fn row_meets(block: &[i64], table: &[i64], r: usize, i: usize) -> bool {
+    if !layout::names_row(block, r, i) {
+        return true;
+    }
+    if layout::kind(block, r) == 1 {
+        return row_apart(block, table, r, i);
+    }
+    let s = last_shape(layout::shape_set(block, table, i));
+    brute::shape_inside(block, r, s, brute::point(block, table, i, 0, 0))
+}
+
+fn rule_holds(block: &[i64], table: &[i64], r: usize) -> bool {
+    let n = layout::rows(block, table);
+    for i in 0..n {
+        if !row_meets(block, table, r, i) {
+            return false;
+        }
+    }
+    true
+}
+
+pub fn is_good(block: &[i64], table: &[i64]) -> bool {
+    let n = layout::rules(block);
+    for r in 0..n {
+        if !rule_holds(block, table, r) {
+            return false;
+        }
+    }
+    true
+}

@@ -1,0 +1,51 @@
+// What brute force finds of a request: 0 for yes (allowed, narrowed, settled, good), NONE for no, or the number of the refusal.
+use super::brute;
+use super::brute::NONE;
+use super::catalogue;
+use super::refusals;
+use super::refusals::index;
+
+pub fn point(block: &[i64], table: &[i64], row: i64, shape: i64, p: [i64; 4]) -> i64 {
+    let g = refusals::shape_refusal(block, table, row, shape);
+    if g > 0 {
+        return g;
+    }
+    if brute::allowed(block, table, index(row), index(shape), p) {
+        0
+    } else {
+        NONE
+    }
+}
+
+pub fn narrowing(block: &[i64], table: &mut [i64], row: i64) -> i64 {
+    let g = refusals::row_refusal(block, table, row);
+    if g > 0 {
+        return g;
+    }
+    if brute::narrow_row(block, table, index(row)) == NONE {
+        NONE
+    } else {
+        0
+    }
+}
+
+// Where there is no layout the table's words are those at the end of the search.
+pub fn settling(block: &[i64], table: &mut [i64]) -> i64 {
+    let g = refusals::refusal(block, table);
+    if g > 0 {
+        return g;
+    }
+    brute::settle_rows(block, table)
+}
+
+pub fn verdict(block: &[i64], table: &[i64]) -> i64 {
+    let g = refusals::placement_refusal(block, table);
+    if g > 0 {
+        return g;
+    }
+    if catalogue::is_good(block, table) {
+        0
+    } else {
+        NONE
+    }
+}

@@ -1,0 +1,79 @@
+// Holds the kernel against brute force: document 01's positions that are not marked, then some thousands of small sheets by chance. It
+// prints how many were run, how many answers were compared, and how many differ.
+mod brute; // brute.rt: what is allowed, by definition; every point tried
+mod catalogue; // catalogue.rt: good placements
+mod compare; // compare.rt: kernel and brute force
+mod edges; // edges.rt: the positions
+mod findings; // findings.rt: what brute force finds
+mod generate; // generate.rt: sheets by chance
+mod layout; // layout.rt: the words of a sheet
+mod numbers; // numbers.rt: sums and places
+mod refusals; // refusals.rt: the grounds
+mod tally; // tally.rt: what is counted
+
+use libc::STDOUT_FILENO;
+use tally::Tally;
+
+// How many sheets are tried.
+const SHEETS: usize = 10000;
+
+// A text and a number.
+fn print(text: &[u8], n: u64) {
+    io::write_all(STDOUT_FILENO, text);
+    io::print_decimal(STDOUT_FILENO, n);
+}
+
+// The most words of a block and of a table.
+const BLOCK: usize = 300;
+
+const TABLE: usize = 100;
+
+fn sheet(t: Tally, seed: &mut usize) -> Tally {
+    let mut block = [0i64; BLOCK];
+    let mut table = [0i64; TABLE];
+    let mut fixed = [0i64; TABLE];
+    let mut kernel = [0i64; TABLE];
+    let mut ours = [0i64; TABLE];
+    let z = generate::sheet(seed, &mut block, &mut table);
+    let b = z.block;
+    let n = z.table;
+    if b > BLOCK || n > TABLE {
+        return t.compared(false);
+    }
+    compare::sheet(
+        t,
+        seed,
+        &block[..b],
+        &table[..n],
+        &mut fixed[..n],
+        &mut kernel[..n],
+        &mut ours[..n],
+    )
+}
+
+fn sheets(n: usize) -> Tally {
+    let mut seed = 88172645463325252;
+    let mut t = Tally::new();
+    for _ in 0..n {
+        t = sheet(t, &mut seed);
+    }
+    t
+}
+
+fn main() {
+    let e = edges::positions();
+    print(b"positions: ", e.run);
+    print(b" run, ", e.differ);
+    let t = sheets(SHEETS);
+    print(b" differ\nsheets: ", t.run);
+    print(b" (refused ", t.refused);
+    print(b", too large ", t.large);
+    print(b", settled ", t.settled);
+    print(b", of these moved ", t.moved);
+    print(b", no layout ", t.none);
+    print(b")\nplacements: good ", t.good);
+    print(b", not good ", t.bad);
+    print(b"\ncomparisons: ", t.compared);
+    print(b", differences: ", t.differ);
+    io::write_all(STDOUT_FILENO, b"\n");
+}

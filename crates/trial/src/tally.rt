@@ -1,0 +1,70 @@
+// What the trial counts.
+use std::num::wrapping_add_u64;
+
+pub struct Tally {
+    pub run: u64, // sheets, or positions
+    pub refused: u64, // sheets
+    pub large: u64, // sheets with too many points, of which only the refusal is compared
+    pub settled: u64, // sheets
+    pub moved: u64, // settled sheets of which a word moved
+    pub none: u64, // sheets with no layout
+    pub good: u64, // placements
+    pub bad: u64, // placements
+    pub compared: u64, // answers and tables
+    pub differ: u64,
+}
+
+fn and(n: u64, more: bool) -> u64 {
+    if more { wrapping_add_u64(n, 1) } else { n }
+}
+
+impl Tally {
+    pub fn new() -> Self {
+        Tally {
+            run: 0,
+            refused: 0,
+            large: 0,
+            settled: 0,
+            moved: 0,
+            none: 0,
+            good: 0,
+            bad: 0,
+            compared: 0,
+            differ: 0,
+        }
+    }
+
+    // One comparison.
+    pub fn compared(mut self, same: bool) -> Self {
+        self.compared = and(self.compared, true);
+        self.differ = and(self.differ, !same);
+        self
+    }
+
+    pub fn with_position(mut self, agrees: bool) -> Self {
+        self.run = and(self.run, true);
+        self.differ = and(self.differ, !agrees);
+        self
+    }
+
+    pub fn with_sheet(mut self, refused: bool, large: bool) -> Self {
+        self.run = and(self.run, true);
+        self.refused = and(self.refused, refused);
+        self.large = and(self.large, large);
+        self
+    }
+
+    // What settling found; `counted` where it was a sheet and not a placement.
+    pub fn with_settling(mut self, counted: bool, finding: i64, moved: bool) -> Self {
+        self.settled = and(self.settled, counted && finding == 0);
+        self.moved = and(self.moved, counted && finding == 0 && moved);
+        self.none = and(self.none, counted && finding == -1);
+        self
+    }
+
+    pub fn with_verdict(mut self, finding: i64) -> Self {
+        self.good = and(self.good, finding == 0);
+        self.bad = and(self.bad, finding == -1);
+        self
+    }
+}

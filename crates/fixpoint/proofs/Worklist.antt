@@ -1,9 +1,8 @@
 -- Settling in code by a worklist: a test `dirty` of the rows, and a row that is not dirty stays as it is when narrowed.
 --   Marks           the invariant, beside Way t v
 --   marks-all       every row is dirty: it holds
+--   marks-again     narrowing row i again moves nothing, nor does narrowing another clean row: it holds, and row i may be cleared
 --   marks-still     narrowing row i moved nothing: row i may be cleared
---   marks-moved     narrowing row i moved: rows stay clean that row i does not affect
---   marks-again     and row i may be cleared too, if narrowing it again moves nothing
 --   marks-clear     no row is dirty: no row moves
 --   marks-settled   so settleBy t ≡ some v
 -- Assumes nothing.
@@ -25,10 +24,9 @@ module _ {A : Type 0} {narrow : ℕ → A → Option A} {n : ℕ} where
   pub marks-all : {dirty : ℕ → Bool} {v : A} → ((j : ℕ) → j < n → dirty j ≡ true) → Marks narrow n dirty v
   marks-all h = record { clean = λ j lt e. absurd (false≢true (sym e ∙ h j lt)) }
 
-  -- row i does not move, nor does any other clean row
-  but-one : {dirty : ℕ → Bool} {v : A} {i : ℕ} → narrow i v ≡ some v
+  pub marks-again : {dirty : ℕ → Bool} {v : A} {i : ℕ} → narrow i v ≡ some v
       → ((j : ℕ) → j < n → (j ≡ i → ⊥) → dirty j ≡ false → narrow j v ≡ some v) → Marks narrow n dirty v
-  but-one {dirty} {v} {i} e h = record { clean = λ j lt c. go j lt c (ℕ-discrete j i) }
+  marks-again {dirty} {v} {i} e h = record { clean = λ j lt c. go j lt c (ℕ-discrete j i) }
     where
       go : (j : ℕ) → j < n → dirty j ≡ false → Dec (j ≡ i) → narrow j v ≡ some v
       go j lt c (yes z) = rw z e
@@ -36,26 +34,10 @@ module _ {A : Type 0} {narrow : ℕ → A → Option A} {n : ℕ} where
 
   pub marks-still : {dirty dirty′ : ℕ → Bool} {v : A} {i : ℕ} → Marks narrow n dirty v → narrow i v ≡ some v
       → ((j : ℕ) → j < n → (j ≡ i → ⊥) → dirty′ j ≡ false → dirty j ≡ false) → Marks narrow n dirty′ v
-  marks-still m e h = but-one e (λ j lt z c. m .clean j lt (h j lt z c))
+  marks-still m e h = marks-again e (λ j lt z c. m .clean j lt (h j lt z c))
 
   pub marks-clear : {dirty : ℕ → Bool} {v : A} → Marks narrow n dirty v → ((j : ℕ) → j < n → dirty j ≡ false) → Still narrow n v
   marks-clear m h j lt = m .clean j lt (h j lt)
-
--- local: where row i does not affect row j, narrowing i leaves j unmoved
-module _ {A : Type 0} {Good : A → Type 0} {narrow : ℕ → A → Option A} {n : ℕ} {affects : ℕ → ℕ → Bool}
-    (local : (i j : ℕ) (t v : A) → i < n → j < n → Good t → affects i j ≡ false
-    → narrow i t ≡ some v → narrow j t ≡ some t → narrow j v ≡ some v)
-    {dirty : ℕ → Bool} {v w : A} {i : ℕ} (m : Marks narrow n dirty v) (li : i < n) (g : Good v) (e : narrow i v ≡ some w) where
-  stays : {j : ℕ} → j < n → (dirty j ≡ false) × (affects i j ≡ false) → narrow j w ≡ some w
-  stays {j} lt c = local i j v w li lt g (c .1) e (m .clean j lt (c .0))
-
-  pub marks-moved : {dirty′ : ℕ → Bool}
-      → ((j : ℕ) → j < n → dirty′ j ≡ false → (dirty j ≡ false) × (affects i j ≡ false)) → Marks narrow n dirty′ w
-  marks-moved h = record { clean = λ j lt c. stays lt (h j lt c) }
-
-  pub marks-again : {dirty′ : ℕ → Bool} → narrow i w ≡ some w
-      → ((j : ℕ) → j < n → (j ≡ i → ⊥) → dirty′ j ≡ false → (dirty j ≡ false) × (affects i j ≡ false)) → Marks narrow n dirty′ w
-  marks-again again h = but-one again (λ j lt z c. stays lt (h j lt z c))
 
 module _ {A : Type 0} {Inside : A → A → Type 0} {Settled Good : A → Type 0}
     {narrow : ℕ → A → Option A} {same : A → A → Bool} {n : ℕ} {μ : A → ℕ}

@@ -10,14 +10,15 @@ use Rattle.integers.specs.Integer.{nat}
 use Rattle.integers.specs.Bits.{bit, bitAt}
 use Rattle.integers.specs.Below.{anyBelow}
 use Rattle.integers.specs.Words.{word}
-use Rattle.integers.proofs.Booleans.{true-and}
+use Rattle.integers.proofs.Booleans.{clash, fails, true-and}
 use Rattle.integers.proofs.Below.{any-true}
-use Rattle.sheet.specs.Layout.{Lent, rules, dims, namesDim}
+use Rattle.sheet.specs.Layout.{Lent, rules, dims, isNonOverlap, namesDim, namesRow}
 use Rattle.sheet.specs.Allowed.{forbidFrom, forbidTo, pairForbids, setForbids, rowForbids, forbidden}
 use Rattle.sheet.proofs.Forbidden.{pair-at, pair-by, shapes-by, shapes-parts, set-by, set-parts, forbidden-parts}
 use Rattle.forbid.specs.Region.{ruleForbids}
 use Rattle.forbid.proofs.Rows.{some-row, named-set}
 use Rattle.nearby.specs.Index.{rulesAt, Rules}
+use Rattle.nearby.specs.Listing.{Unreached}
 
 module _ (lent : Lent) (t : List ℤ) (r q : ℕ) (fewer : (d : ℕ) → d < dims lent → namesDim lent q d ≡ true → namesDim lent r d ≡ true) where
   -- what is forbidden in every dimension that r names is so in every dimension that q names
@@ -57,3 +58,13 @@ counted-forbid lent t i s l w n e p f =
     (some-row lent t (c .rule) i s (u .other) (u .from) (u .upto) p
     (sym (named-set lent t (c .rule) i s (u .other) (u .another) (c .names (u .other) (u .names-other)) p)
     ∙ set-covered lent t (u .rule) (c .rule) (c .dims-of) i s (u .other) p (u .set)))))
+
+-- a row that no rule that counts lets row j reach is reached by no rule
+pub unreached-covered : (lent : Lent) (t l : List ℤ) → Rules lent l → (j i : ℕ)
+    → ((q : ℕ) → q < rules lent → bit (word l rulesAt) q ≡ true → isNonOverlap lent q ≡ true → namesRow lent q j ≡ true → namesRow lent q i ≡ true
+    → Unreached lent t q j i)
+    → (r : ℕ) → r < rules lent → isNonOverlap lent r ≡ true → namesRow lent r j ≡ true → namesRow lent r i ≡ true → Unreached lent t r j i
+unreached-covered lent t l w j i f r h k nj ni =
+    let c = w .covered r h k in
+    let u = f (c .rule) (c .below) (c .counts) (c .kind) (c .names j nj) (c .names i ni) in
+    record { clear = λ s p a b. fails (λ e. clash (set-covered lent t r (c .rule) (c .dims-of) i s j p e) (u .clear s p a b)) }

@@ -4,7 +4,7 @@ use mathlib.Core.Path.{_≡_, refl, sym, ap, ap₂, _∙_, subst}
 use mathlib.Core.Logic.{⊎-elim}
 use mathlib.Core.Bool.{Bool, true, false, _&&_, _||_}
 use mathlib.Core.List.{List}
-use Prim.Native.Nat.{ℕ, suc, _+_, _*_, _≤_, _<_}
+use Prim.Native.Nat.{ℕ, suc, _+_, _≤_, _<_}
 use native.Mathlib.Nat.{eq-or-lt-of-le}
 use native.Mathlib.Numerals.{add-one}
 use native.Mathlib.Omega.{arith}
@@ -24,8 +24,9 @@ use Rattle.region.specs.declared.Area.{Area}
 use Rattle.region.specs.Area.{inArea, InField}
 use Rattle.nearby.specs.declared.Nearby.{Nearby}
 use Rattle.nearby.specs.declared.hull.Hull.{Hull}
-use Rattle.nearby.specs.Hull.{InHull, HullTo}
-use Rattle.nearby.specs.Listing.{headLen, entryLen, entryAt, entryHolds, entryRule, entryRow, entryBox, SameTo, Entered, Clear, Ready, Names, Sound, Rivals, Entry, Met, Gathered, Grows, Listed, rivalForbids, Opponent}
+use Rattle.nearby.specs.Hull.{HullTo}
+use Rattle.nearby.specs.Listing.{headLen, entryAt, entryHolds, entryRule, entryRow, entryBox, SameTo, Entered, Ready, Sound, Rivals, Entry, Met, Gathered, Grows, Listed, rivalForbids, Opponent}
+use Rattle.nearby.proofs.Fours.{hull-kept}
 use Rattle.nearby.proofs.Head.{index-kept, rules-kept}
 
 -- ---- what stays where the words before an entry do
@@ -38,6 +39,7 @@ module _ {at : ℕ} {l l' : List ℤ} (same : SameTo at l l') where
     long = omega (arith, r .long, same .long);
     index = index-kept f (λ x k. same .words x (omega arith)) (r .index);
     rules = rules-kept (λ x k. same .words x (omega arith)) (r .rules);
+    hulls = λ s from upto. subst (HullTo lent s (boxes lent)) (sym (hull-kept l l' s (λ x f k. same .words x (omega arith)))) (r .hulls s from upto);
   }
 
   holds-kept : (e k : ℕ) (p : List ℤ) → k ≤ 4 → entryAt e + 11 ≤ at → entryHolds l' e k p ≡ entryHolds l e k p

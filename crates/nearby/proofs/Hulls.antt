@@ -35,6 +35,9 @@ le-max a b = by (leZ a b) refl
     by true e = (omega ints, omega ints)
     by false e = (omega ints, omega ints)
 
+pub le-of : {a b : ℤ} → a ≡ b → a ≤ℤ b
+le-of {a} e = subst (λ (z : ℤ). a ≤ℤ z) e (≤ℤ-refl a)
+
 either-within : {n : ℕ} {a b : ℤ} (t : Bool) → Within n a → Within n b → Within n (cond t a b)
 either-within true h k = h
 either-within false h k = k

@@ -2,8 +2,8 @@
 -- Assumes nothing.
 use mathlib.Core.Path.{_≡_}
 use mathlib.Core.Bool.{true}
-use mathlib.Core.List.{List}
-use Prim.Native.Nat.{ℕ, _<_}
+use mathlib.Core.List.{List, [], _∷_}
+use Prim.Native.Nat.{ℕ, _+_, _*_, _<_}
 use lib.IntN.{ℤ, _+ℤ_}
 use lib.Signed.{_≤ℤ_}
 use Rattle.integers.specs.Integer.{within, Within}
@@ -15,6 +15,22 @@ use Rattle.region.specs.Area.{reach}
 use Rattle.nearby.specs.declared.hull.Hull.{Hull}
 use Rattle.nearby.specs.declared.side.Side.{Side}
 
+-- ---- the hull of each shape in the head of a list
+-- where the words begin that tell where the hull of shape s starts, and where it ends
+abbrev pub startsAt : ℕ → ℕ
+startsAt s = 153 + 8 * s
+
+abbrev pub endsAt : ℕ → ℕ
+endsAt s = 157 + 8 * s
+
+-- four words, one for each coordinate
+unfoldable pub fourAt : List ℤ → ℕ → List ℤ
+fourAt l at = word l at ∷ word l (at + 1) ∷ word l (at + 2) ∷ word l (at + 3) ∷ []
+
+abbrev pub hullAt : List ℤ → ℕ → Hull
+hullAt l s = record { start = fourAt l (startsAt s); end = fourAt l (endsAt s) }
+
+-- ---- what a hull holds
 pub record Modest (h : Hull) : Type 0 where
   pub starts : (d : ℕ) → Within 20000 (word (h .start) d)
   pub ends : (d : ℕ) → Within 20000 (word (h .end) d)

@@ -1,7 +1,7 @@
 -- The list of what can forbid a row with a shape: its head, its entries, and what it is for the list to be complete in an area.
 -- An entry is a rule, another row and one of its boxes, with an area that holds every point they can forbid. Assumes nothing.
 use mathlib.Core.Path.{_≡_}
-use mathlib.Core.Bool.{Bool, true, _&&_, _||_}
+use mathlib.Core.Bool.{Bool, true, false, _&&_, _||_}
 use mathlib.Core.List.{List}
 use Prim.Native.Nat.{ℕ, _+_, _*_, _≤_, _<_}
 use lib.ListN.{length}
@@ -9,8 +9,8 @@ use lib.IntN.{ℤ, pos}
 use Rattle.integers.specs.Integer.{nat, within}
 use Rattle.integers.specs.Below.{allBelow, anyBelow}
 use Rattle.integers.specs.Words.{word}
-use Rattle.sheet.specs.Layout.{Lent, dims, axes, boxes, rules, rows, isOf, isNonOverlap, namesRow, hasOnly}
-use Rattle.sheet.specs.Allowed.{pairForbids, forbidden}
+use Rattle.sheet.specs.Layout.{Lent, dims, axes, boxes, rules, rows, isOf, isNonOverlap, namesRow, hasShape, hasOnly}
+use Rattle.sheet.specs.Allowed.{inRanges, pairForbids, shapesForbid, setForbids, forbidden}
 use Rattle.sheet.specs.Accepted.{Block, Table, Count}
 use Rattle.words.specs.Places.{RowPlace}
 use Rattle.region.specs.declared.Area.{Area}
@@ -19,11 +19,11 @@ use Rattle.nearby.specs.declared.Nearby.{Nearby}
 use Rattle.nearby.specs.declared.hull.Hull.{Hull}
 use Rattle.nearby.specs.declared.entry.Query.{Query}
 use Rattle.nearby.specs.Index.{Index, Rules}
-use Rattle.nearby.specs.Hull.{InHull, HullTo, Modest}
+use Rattle.nearby.specs.Hull.{hullAt, InHull, HullTo}
 
 -- how many words the head has, and an entry
 abbrev pub headLen : ℕ
-headLen = 161
+headLen = 417
 
 abbrev pub entryLen : ℕ
 entryLen = 11
@@ -36,6 +36,7 @@ module _ (lent : Lent) (list : List ℤ) where
     pub long : headLen ≤ length list
     pub index : Index lent list
     pub rules : Rules lent list
+    pub hulls : (s : ℕ) → 1 ≤ s → s ≤ 32 → HullTo lent s (boxes lent) (hullAt list s)
 
 module _ (list : List ℤ) (e : ℕ) where
   abbrev pub entryRule : ℕ
@@ -85,10 +86,19 @@ module _ (lent : Lent) (t : List ℤ) where
     pub holds : (i b : ℕ) (p : List ℤ) → ((d : ℕ) → d < dims lent → InHull lent h b d) → InField (dims lent) p
         → pairForbids lent t r p i b j c ≡ true → entryHolds l' e (dims lent) p ≡ true
 
+  -- row j forbids row i no point of its ranges by rule r
+  pub record Unreached (r j i : ℕ) : Type 0 where
+    pub clear : (s : ℕ) (p : List ℤ) → hasShape lent t i s ≡ true → inRanges lent t i p ≡ true → setForbids lent t r p i s j ≡ false
+
   -- no point of the area is forbidden by rule r and box c of row j to a box in the hull
   abbrev pub Clear : ℕ → ℕ → ℕ → Hull → Area → Type 0
   Clear r j c h a = (i b : ℕ) (p : List ℤ) → ((d : ℕ) → d < dims lent → InHull lent h b d) → InField (dims lent) p
       → inArea (axes lent) a p ≡ true → pairForbids lent t r p i b j c ≡ true → ⊥
+
+  -- no point of the area is forbidden by rule r to shape s by shape s' of row j
+  abbrev pub ShapeClear : ℕ → ℕ → ℕ → ℕ → Area → Type 0
+  ShapeClear r j s' s a = (i : ℕ) (p : List ℤ) → InField (dims lent) p → inArea (axes lent) a p ≡ true
+      → shapesForbid lent t r p i s j s' ≡ true → ⊥
 
   -- rule r keeps row i apart from row j, which has the one shape s'
   pub record Opponent (i r j s' : ℕ) : Type 0 where

@@ -110,7 +110,7 @@ fn add_shape(
     found
 }
 
-// Lists row j, if it is another row, the rule names it and it has one shape.
+// Lists row j, if it is another row, the rule names it, it has one shape and that can forbid a point of the area.
 fn add_row(
     block: &[i64],
     table: &[i64],
@@ -138,6 +138,11 @@ fn add_row(
     let other = words::row_place(block, table, j);
     let t = forbid::row::only_shape(block, table, other);
     if t == 0 {
+        return nearby;
+    }
+    let s = q.s;
+    let area = q.area;
+    if !entry::is_shape_near(block, table, list, r, other, t, s, area) {
         return nearby;
     }
     add_shape(block, table, list, nearby, q, r, other, t)

@@ -10,7 +10,7 @@ ghost use Rattle.sheet.specs.Layout.{lentOf, dims};
 ghost use Rattle.sheet.specs.Accepted.{Head, Block, Table};
 ghost use Rattle.words.specs.Places.{BoxPlace, RulePlace, RowPlace};
 ghost use Rattle.nearby.specs.Hull.{Modest, Reaches};
-ghost use Rattle.nearby.specs.Listing.{entryAt, entryHolds, entryRule, entryRow, entryBox, SameTo, Entered, Clear, Names};
+ghost use Rattle.nearby.specs.Listing.{entryAt, entryHolds, entryRule, entryRow, entryBox, SameTo, Entered, Clear, ShapeClear, Ready, Names};
 use crate::hull::Hull;
 use crate::side;
 use region::Area;
@@ -39,7 +39,7 @@ pub fn entry_at(list: &[i64], e: usize) -> usize
     requires { ⌜ entryAt e ≤ length (now list) ⌝ }
     ensures { λ r. ⌜ r ≡ entryAt e ⌝ }
 {
-    161 + e * 11
+    417 + e * 11
 }
 
 // Whether z lies between two words, the first of which stands at `at`.
@@ -116,6 +116,33 @@ pub fn is_near(block: &[i64], table: &[i64], x: Rival, hull: Hull, area: Area) -
     let mut d = 0;
     while d < k {
         let y = side::side_of(block, table, r, j, c, hull, d);
+        if apart(y.from, y.to, area.low[d], area.high[d]) {
+            return false;
+        }
+        d += 1;
+    }
+    true
+}
+
+// Whether shape t of row j can forbid a point of the area to shape s; left at the first dimension that is clear.
+pub fn is_shape_near(
+    block: &[i64],
+    table: &[i64],
+    list: &[i64],
+    r: Place,
+    j: Place,
+    t: usize,
+    s: usize,
+    area: Area,
+) -> bool
+    requires { ⌜ Block (lentOf (now block)) × Table (lentOf (now block)) (now table) × RulePlace (lentOf (now block)) r
+        × RowPlace (lentOf (now block)) (now table) j × Ready (lentOf (now block)) (now list) × (1 ≤ t) × (t ≤ 32) × (1 ≤ s) × (s ≤ 32) ⌝ }
+    ensures { λ x. ⌜ (x ≡ false → ShapeClear (lentOf (now (block .entry))) (now (table .entry)) (r .number) (j .number) t s area) ⌝ }
+{
+    let k = words::dims_of(block);
+    let mut d = 0;
+    while d < k {
+        let y = side::shape_side(block, table, list, r, j, t, s, d);
         if apart(y.from, y.to, area.low[d], area.high[d]) {
             return false;
         }

@@ -1,6 +1,6 @@
-// The hull of a shape: the smallest box around its boxes.
+// The hull of a shape: the smallest box around its boxes; and the hull of each shape, in the head of a list.
 ghost use mathlib.Core.Path.{_≡_};
-ghost use Prim.Native.Nat.{ℕ, _<_, _≤_};
+ghost use Prim.Native.Nat.{ℕ, _+_, _<_, _≤_};
 ghost use lib.ListN.{length, set};
 ghost use Rattle.integers.specs.Integer.{Within};
 ghost use Rattle.integers.specs.Words.{word};
@@ -9,7 +9,8 @@ ghost use Rattle.sheet.specs.Accepted.{Block};
 ghost use Rattle.words.specs.Places.{BoxPlace};
 ghost use Rattle.region.specs.Area.{coordinates, minZ, maxZ};
 ghost use Rattle.nearby.specs.Index.{Index};
-ghost use Rattle.nearby.specs.Hull.{HullTo, InHull, Widens};
+ghost use Rattle.nearby.specs.Hull.{startsAt, fourAt, hullAt, HullTo, InHull, Widens};
+ghost use Rattle.nearby.specs.Listing.{SameTo};
 use crate::index;
 use region::COORDINATES;
 use words::Place;
@@ -57,7 +58,7 @@ fn with_box(block: &[i64], hull: Hull, b: Place) -> Hull
 }
 
 // The hull of shape s.
-pub fn hull_of(block: &[i64], list: &[i64], s: usize) -> Hull
+fn hull_of(block: &[i64], list: &[i64], s: usize) -> Hull
     requires { ⌜ Block (lentOf (now block)) × (161 ≤ length (now list)) × Index (lentOf (now block)) (now list) × (1 ≤ s) × (s ≤ 32) ⌝ }
     ensures { λ r. ⌜ HullTo (lentOf (now (block .entry))) s (boxes (lentOf (now (block .entry)))) r ⌝ }
 {
@@ -74,4 +75,61 @@ pub fn hull_of(block: &[i64], list: &[i64], s: usize) -> Hull
         at = index::after(block, list, b, s);
     }
     hull
+}
+
+// ---- in the head of a list
+
+// Four words, one for each coordinate.
+fn four_at(list: &[i64], at: usize) -> [i64; COORDINATES]
+    requires { ⌜ at + 4 ≤ length (now list) ⌝ }
+    ensures { λ r. ⌜ r ≡ fourAt (now (list .entry)) at ⌝ }
+{
+    [list[at], list[at + 1], list[at + 2], list[at + 3]]
+}
+
+fn put_four(list: &mut [i64], at: usize, four: [i64; COORDINATES])
+    requires { ⌜ at + 4 ≤ length (now list) ⌝ }
+    ensures { λ _. ⌜ SameTo at (now (list .entry)) (now (list .exit)) × (fourAt (now (list .exit)) at ≡ four) ⌝ }
+{
+    let mut d = 0;
+    while d < COORDINATES {
+        list[at + d] = four[d];
+        d += 1;
+    }
+}
+
+// The hull of shape s, as the head of a list has it.
+pub fn hull_at(list: &[i64], s: usize) -> Hull
+    requires { ⌜ (417 ≤ length (now list)) × (1 ≤ s) × (s ≤ 32) ⌝ }
+    ensures { λ r. ⌜ r ≡ hullAt (now (list .entry)) s ⌝ }
+{
+    let start = four_at(list, 153 + 8 * s);
+    let end = four_at(list, 157 + 8 * s);
+    Hull { start, end }
+}
+
+// Writes the hull of shape s.
+fn write_hull(block: &[i64], list: &mut [i64], s: usize)
+    requires { ⌜ Block (lentOf (now block)) × (417 ≤ length (now list)) × Index (lentOf (now block)) (now list) × (1 ≤ s) × (s ≤ 32) ⌝ }
+    ensures { λ _. ⌜ SameTo (startsAt s) (now (list .entry)) (now (list .exit))
+        × HullTo (lentOf (now (block .entry))) s (boxes (lentOf (now (block .entry)))) (hullAt (now (list .exit)) s) ⌝ }
+{
+    let hull = hull_of(block, list, s);
+    let start = hull.start;
+    let end = hull.end;
+    put_four(list, 153 + 8 * s, start);
+    put_four(list, 157 + 8 * s, end);
+}
+
+// Writes the hull of each shape, from shape 1 on.
+pub fn write_hulls(block: &[i64], list: &mut [i64])
+    requires { ⌜ Block (lentOf (now block)) × (417 ≤ length (now list)) × Index (lentOf (now block)) (now list) ⌝ }
+    ensures { λ _. ⌜ SameTo 161 (now (list .entry)) (now (list .exit))
+        × ((s : ℕ) → 1 ≤ s → s ≤ 32 → HullTo (lentOf (now (block .entry))) s (boxes (lentOf (now (block .entry)))) (hullAt (now (list .exit)) s)) ⌝ }
+{
+    let mut s = 1;
+    while s <= 32 {
+        write_hull(block, list, s);
+        s += 1;
+    }
 }

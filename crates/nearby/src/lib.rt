@@ -7,16 +7,19 @@ mod rules;
 mod side;
 
 ghost use mathlib.Core.Path.{_≡_};
-ghost use mathlib.Core.Bool.{true, _&&_};
-ghost use Prim.Native.Nat.{_≤_};
+ghost use mathlib.Core.Bool.{true, false, _&&_};
+ghost use Prim.Native.Nat.{_≤_, _<_};
 ghost use lib.ListN.{length};
-ghost use Rattle.sheet.specs.Layout.{lentOf, axes, isOf};
+ghost use Rattle.integers.specs.Bits.{bit};
+ghost use Rattle.integers.specs.Words.{word};
+ghost use Rattle.sheet.specs.Layout.{lentOf, axes, rules, isOf, hasShape};
 ghost use Rattle.sheet.specs.Allowed.{forbidden};
 ghost use Rattle.sheet.specs.Accepted.{Block, Table};
-ghost use Rattle.words.specs.Places.{RowPlace};
+ghost use Rattle.words.specs.Places.{RulePlace, RowPlace};
 ghost use Rattle.forbid.specs.Pair.{PairPlaces, forbiddenBy};
 ghost use Rattle.forbid.specs.Region.{Forbids, Asked};
-ghost use Rattle.nearby.specs.Listing.{Ready, Listed, ListedAt};
+ghost use Rattle.nearby.specs.Index.{rulesAt};
+ghost use Rattle.nearby.specs.Listing.{Ready, Listed, ListedAt, ShapeClear, Unreached};
 use crate::entry::Query;
 use forbid::Region;
 use forbid::pair;
@@ -26,10 +29,10 @@ use region::COORDINATES;
 use words::Place;
 
 // The words that a list begins with; a list has at least these.
-pub const HEAD: usize = 161;
+pub const HEAD: usize = 417;
 
 // How many words a caller lends for a list.
-pub const LIST: usize = 6101;
+pub const LIST: usize = 6357;
 
 // The entries of a list, and whether it holds every one that can forbid a point of its area.
 pub struct Nearby {
@@ -37,13 +40,14 @@ pub struct Nearby {
     pub whole: bool,
 }
 
-// Makes a list ready: its head says which boxes each shape has, and which rules count.
+// Makes a list ready: its head says which boxes each shape has, which rules count, and the hull of each shape.
 pub fn prepare(block: &[i64], list: &mut [i64])
-    requires { ⌜ Block (lentOf (now block)) × (161 ≤ length (now list)) ⌝ }
+    requires { ⌜ Block (lentOf (now block)) × (417 ≤ length (now list)) ⌝ }
     ensures { λ _. ⌜ Ready (lentOf (now (block .entry))) (now (list .exit)) ⌝ }
 {
     index::index(block, list);
     rules::count_rules(block, list);
+    hull::write_hulls(block, list);
 }
 
 // Lists what can forbid row i with shape s some point of the area.
@@ -72,7 +76,7 @@ pub fn gather(
             whole: false,
         };
     }
-    let hull = hull::hull_of(block, list, s);
+    let hull = hull::hull_at(list, s);
     let q = Query { i, s, hull, area };
     let counted = words::set_at(list, 160);
     let n = words::rules_of(block);
@@ -169,4 +173,61 @@ pub fn region_at(
         }
     }
     forbid::forbidding_region(block, table, i, s, p)
+}
+
+// Whether shape t of row j can forbid row i with shape s a point of the area, if s is one of its shapes.
+fn reaches_shape(
+    block: &[i64],
+    table: &[i64],
+    list: &[i64],
+    r: Place,
+    j: Place,
+    t: usize,
+    i: Place,
+    s: usize,
+    area: Area,
+) -> bool
+    requires { ⌜ Block (lentOf (now block)) × Table (lentOf (now block)) (now table) × RulePlace (lentOf (now block)) r
+        × RowPlace (lentOf (now block)) (now table) j × RowPlace (lentOf (now block)) (now table) i × Ready (lentOf (now block)) (now list)
+        × (1 ≤ t) × (t ≤ 32) × (1 ≤ s) × (s ≤ 32) ⌝ }
+    ensures { λ x. ⌜ (x ≡ false → hasShape (lentOf (now (block .entry))) (now (table .entry)) (i .number) s ≡ true
+        → ShapeClear (lentOf (now (block .entry))) (now (table .entry)) (r .number) (j .number) t s area) ⌝ }
+{
+    if !words::has_shape(block, table, i, s) {
+        return false;
+    }
+    entry::is_shape_near(block, table, list, r, j, t, s, area)
+}
+
+// Whether rule r counts: no earlier rule that does forbids all that it forbids.
+pub fn rule_counts(block: &[i64], list: &[i64], r: usize) -> bool
+    requires { ⌜ Block (lentOf (now block)) × Ready (lentOf (now block)) (now list) × (r < rules (lentOf (now block))) ⌝ }
+    ensures { λ x. ⌜ x ≡ bit (word (now (list .entry)) rulesAt) r ⌝ }
+{
+    words::bit_at(list, 160, r)
+}
+
+// Whether row j can forbid row i some point of its ranges by rule r.
+pub fn reaches_row(block: &[i64], table: &[i64], list: &[i64], r: Place, j: Place, i: Place) -> bool
+    requires { ⌜ Block (lentOf (now block)) × Table (lentOf (now block)) (now table) × RulePlace (lentOf (now block)) r
+        × RowPlace (lentOf (now block)) (now table) j × RowPlace (lentOf (now block)) (now table) i × Ready (lentOf (now block)) (now list) ⌝ }
+    ensures { λ x. ⌜ (x ≡ false → Unreached (lentOf (now (block .entry))) (now (table .entry)) (r .number) (j .number) (i .number)) ⌝ }
+{
+    let t = forbid::row::only_shape(block, table, j);
+    if t == 0 {
+        return false;
+    }
+    let area = region::row_area(block, table, i);
+    let own = forbid::row::only_shape(block, table, i);
+    if own > 0 {
+        return reaches_shape(block, table, list, r, j, t, i, own, area);
+    }
+    let mut s = 1;
+    while s <= 32 {
+        if reaches_shape(block, table, list, r, j, t, i, s, area) {
+            return true;
+        }
+        s += 1;
+    }
+    false
 }

@@ -79,7 +79,7 @@ impl Area {
 // ---- the cut box
 
 // Row i's ranges.
-fn row_area(block: &[i64], table: &[i64], i: Place) -> Area
+pub fn row_area(block: &[i64], table: &[i64], i: Place) -> Area
     requires { ⌜ Block (lentOf (now block)) × Table (lentOf (now block)) (now table) × RowPlace (lentOf (now block)) (now table) i ⌝ }
     ensures { λ x. ⌜ Cuts (axes (lentOf (now (block .entry)))) fieldArea x
         (inRanges (lentOf (now (block .entry))) (now (table .entry)) (i .number)) ⌝ }

@@ -13,16 +13,17 @@ use Rattle.integers.specs.Below.{valueOr}
 use Rattle.integers.specs.Words.{sameWords}
 use Rattle.integers.proofs.Booleans.{clash}
 use Rattle.integers.proofs.Lists.{same-eq, same-refl}
-use Rattle.sheet.specs.Layout.{Lent, axes, rows}
+use Rattle.sheet.specs.Layout.{Lent, axes, rules, rows}
 use Rattle.sheet.specs.Narrow.{narrowOf}
-use Rattle.sheet.specs.Settle.{settleOf, together}
-use Rattle.sheet.proofs.Demand3.{narrow}
+use Rattle.sheet.specs.Settle.{settleOf}
+use Rattle.sheet.proofs.Local.{Clear}
+use Rattle.sheet.proofs.Demand3.{Good, narrow}
 use Rattle.narrow.specs.Steps.{stepAnswer}
 use Rattle.narrow.specs.declared.Step.{Step}
 use Rattle.narrow.specs.declared.Step.the-variants.{NoPlace, Still, Moved}
 use Rattle.settle.specs.declared.Flags.{Flags}
-use Rattle.settle.specs.Todo.{todo, Touched, OnTheWay, toGo}
-use Rattle.settle.proofs.Worked.{worked-none, worked-still, worked-moved, worked-falls, less-rows, less-extent}
+use Rattle.settle.specs.Todo.{todo, Touched, Spared, OnTheWay, toGo}
+use Rattle.settle.proofs.Worked.{worked-none, worked-still, worked-good, worked-moved, worked-falls, less-rows, less-extent}
 
 -- ---- the answer
 answer-none : (t : List ℤ) (o : Option (List ℤ)) → NoPlace ≡ stepAnswer t o → o ≡ none
@@ -74,28 +75,27 @@ unfolding todo
 cleared-other {more = more} i m q ne = getD-set-other (more .rows) i m false false ne ∙ ap (λ (f : Flags). todo f m) q
 
 -- ---- one turn: a row, number i + 1, was narrowed in v; its answer is r, and the table left w
-pub record Turn (lent : Lent) (t v w : List ℤ) (flags : Flags) (i : ℕ) (r : Step) : Type 0 where
+pub record Turn (lent : Lent) (t v w : List ℤ) (flags : Flags) (i row : ℕ) (r : Step) : Type 0 where
   pub dims : 0 < axes lent
   pub way : OnTheWay lent t v flags
   pub below : i < rows lent t
   pub few : rows lent t ≤ 32
-  pub row : ℕ
   pub number : row ≡ i + 1
   pub told : r ≡ stepAnswer v (narrowOf lent v row)
   pub left : w ≡ valueOr v (narrowOf lent v row)
 
-module _ {lent : Lent} {t v w : List ℤ} {flags : Flags} {i : ℕ} {r : Step} (x : Turn lent t v w flags i r) where
-  found : narrowOf lent v (x .row) ≡ narrow lent i v
+module _ {lent : Lent} {t v w : List ℤ} {flags : Flags} {i row : ℕ} {r : Step} (x : Turn lent t v w flags i row r) where
+  found : narrowOf lent v row ≡ narrow lent i v
   found = ap (narrowOf lent v) (x .number ∙ add-one i)
 
   pub turn-none : r ≡ NoPlace → settleOf lent t ≡ none
   turn-none e =
-      worked-none lent (x .dims) t v flags (x .way) i (x .below) (sym found ∙ answer-none v (narrowOf lent v (x .row)) (sym e ∙ x .told))
+      worked-none lent (x .dims) t v flags (x .way) i (x .below) (sym found ∙ answer-none v (narrowOf lent v row) (sym e ∙ x .told))
 
   -- nothing moved
   module _ (e : r ≡ Still) where
-    stood : narrowOf lent v (x .row) ≡ some v
-    stood = answer-still v (narrowOf lent v (x .row)) (sym e ∙ x .told)
+    stood : narrowOf lent v row ≡ some v
+    stood = answer-still v (narrowOf lent v row) (sym e ∙ x .told)
 
     same : v ≡ w
     same = sym (left-still v w stood (x .left))
@@ -113,14 +113,22 @@ module _ {lent : Lent} {t v w : List ℤ} {flags : Flags} {i : ℕ} {r : Step} (
 
   -- a word moved
   module _ (e : r ≡ Moved) where
-    moved : (narrowOf lent v (x .row) ≡ some w) × (w ≡ v → ⊥)
-    moved = answer-moved v w (narrowOf lent v (x .row)) (sym e ∙ x .told) (x .left)
+    moved : (narrowOf lent v row ≡ some w) × (w ≡ v → ⊥)
+    moved = answer-moved v w (narrowOf lent v row) (sym e ∙ x .told) (x .left)
+
+    pub turn-good : Good lent t w
+    turn-good = worked-good lent (x .dims) t v flags (x .way) i (x .below) w (sym found ∙ moved .0)
 
     pub turn-moved : {n : ℕ} {set more : Flags} → more ≡ set → n ≡ rows lent t
-        → Touched n flags (λ m. together lent (suc i) (suc m)) set → OnTheWay lent t w (cleared more i)
+        → Touched n flags (λ m. (q : ℕ) → q < rules lent → Spared lent w row q m) set → OnTheWay lent t w (cleared more i)
     turn-moved {more = more} q k y =
         worked-moved lent (x .dims) t v flags (x .way) i (x .below) w (sym found ∙ moved .0) (cleared more i)
-        (λ m h ne. cleared-other i m q ne ∙ y .is m (omega (arith, h, k)))
+        (λ m h ne c. let a = y .left m (omega (arith, h, k)) (sym (cleared-other i m q ne) ∙ c) in (a .0, clear-by m (a .1)))
+      where
+        clear-by : (m : ℕ) → ((q : ℕ) → q < rules lent → Spared lent w row q m) → Clear lent w (suc i) (suc m)
+        clear-by m spared =
+            subst (λ (j : ℕ). Clear lent w j (suc m)) (x .number ∙ add-one i)
+            (record { clear = λ q s p l kind names-i names held ranged. spared q l kind names-i names .clear s p held ranged })
 
     pub moved-less : (more : Flags) → toGo lent (rows lent t) w more < toGo lent (rows lent t) v flags
     moved-less more =

@@ -1,8 +1,8 @@
 -- The laws of the settling loop: where it starts (`worked-start`), what one narrowing leaves (`worked-none`, `worked-still`, `worked-moved`), and
 -- where no row is left to narrow (`worked-end`). Assumes nothing.
-use mathlib.Core.Path.{_≡_, refl, sym, ap, _∙_, subst}
+use mathlib.Core.Path.{_≡_, refl, sym, _∙_, subst}
 use mathlib.Core.Logic.{⊎-elim}
-use mathlib.Core.Bool.{Bool, true, false, cond, _||_, _&&_}
+use mathlib.Core.Bool.{Bool, true, false, cond}
 use mathlib.Core.List.{List}
 use mathlib.Core.Option.{none, some}
 use Prim.Native.Nat.{ℕ, zero, suc, _+_, _≤_, _<_}
@@ -10,34 +10,17 @@ use native.Mathlib.Nat.{mul-le-mul-right}
 use native.Mathlib.Omega.{arith}
 use lib.IntN.{ℤ}
 use Rattle.integers.specs.Below.{sumBelow}
-use Rattle.integers.proofs.Booleans.{or-false}
-use Rattle.integers.proofs.Below.{any-same, sum-lt, same-or}
+use Rattle.integers.proofs.Below.{sum-lt, same-or}
 use Rattle.fixpoint.proofs.Between.{way-start, way-step}
 use Rattle.fixpoint.proofs.Settle.{settles-none}
 use Rattle.fixpoint.proofs.Worklist.{marks-all, marks-still, marks-again, marks-settled}
-use Rattle.sheet.specs.Layout.{Lent, axes, isNonOverlap, namesRow, rows}
-use Rattle.sheet.specs.Settle.{extent, settleOf, together}
-use Rattle.sheet.specs.Accepted.{Table}
+use Rattle.sheet.specs.Layout.{Lent, axes, rows}
+use Rattle.sheet.specs.Settle.{extent, settleOf}
 use Rattle.sheet.proofs.Accepted.{rows-same}
-use Rattle.sheet.proofs.Local.{narrow-again, narrow-apart}
+use Rattle.sheet.proofs.Local.{Clear, narrow-again, narrow-clear}
 use Rattle.sheet.proofs.Demand3.{Good, narrow, laws}
 use Rattle.settle.specs.declared.Flags.{Flags}
 use Rattle.settle.specs.Todo.{todo, OnTheWay, toGo}
-
--- being named together does not depend on the order
-together-comm : (lent : Lent) (i j : ℕ) → together lent i j ≡ together lent j i
-unfolding together
-together-comm lent i j = any-same (λ r h. swap (isNonOverlap lent r) (namesRow lent r i) (namesRow lent r j))
-  where
-    swap : (a b c : Bool) → (a && b && c) ≡ (a && c && b)
-    swap true true true = refl
-    swap true true false = refl
-    swap true false true = refl
-    swap true false false = refl
-    swap false b c = refl
-
-some-inj : {a b : List ℤ} → some a ≡ some b → a ≡ b
-some-inj {a} {b} e = cc
 
 module _ (lent : Lent) (dims : 0 < axes lent) (t : List ℤ) where
   abbrev n : ℕ
@@ -45,21 +28,6 @@ module _ (lent : Lent) (dims : 0 < axes lent) (t : List ℤ) where
 
   row-of : {v : List ℤ} (m : ℕ) → Good lent t v → m < n → suc m ≤ rows lent v
   row-of {v} m g h = subst (λ (k : ℕ). m < k) (sym (rows-same lent v t (g .as-long))) h
-
-  -- narrowing row i leaves row j unmoved, where no non-overlap rule names both
-  unmoved : (i j : ℕ) (v w : List ℤ) → i < n → j < n → Good lent t v → together lent (suc i) (suc j) ≡ false
-      → narrow lent i v ≡ some w → narrow lent j v ≡ some v → narrow lent j w ≡ some w
-  unmoved i j v w li lj g a e f = ⊎-elim same other (same-or j i)
-    where
-      same : j ≡ i → narrow lent j w ≡ some w
-      same z =
-          let q : v ≡ w = some-inj (sym f ∙ ap (λ (m : ℕ). narrow lent m v) z ∙ e) in
-          subst (λ (u : List ℤ). narrow lent j u ≡ some u) q f
-
-      other : (j ≡ i → ⊥) → narrow lent j w ≡ some w
-      other ne =
-          narrow-apart lent v w (g .table) (laws lent dims t .good li g e .table) (suc i) (omega arith) (row-of i g li) e
-          (suc j) (omega arith) (row-of j g lj) (λ z. ne (omega arith)) (together-comm lent (suc j) (suc i) ∙ a) f
 
   -- ---- the loop
   pub worked-start : (flags : Flags) → Good lent t t → ((m : ℕ) → m < n → todo flags m ≡ true) → OnTheWay lent t t flags
@@ -81,20 +49,26 @@ module _ (lent : Lent) (dims : 0 < axes lent) (t : List ℤ) where
           → ((m : ℕ) → (m ≡ i → ⊥) → todo flags' m ≡ todo flags m) → OnTheWay lent t v flags'
       worked-still flags' e same = record { way = x .way; marks = marks-still (x .marks) e (λ j lt ne c. sym (same j ne) ∙ c) }
 
-      -- something moved: the rows named together with row i are to be narrowed again
+      -- something moved: a row need not be narrowed again if row i forbids it nothing
       module _ (w : List ℤ) (e : narrow lent i v ≡ some w) where
-        pub worked-table : Table lent w
-        worked-table = laws lent dims t .good li (x .way .good) e .table
+        pub worked-good : Good lent t w
+        worked-good = laws lent dims t .good li (x .way .good) e
+
+        stays : (j : ℕ) → j < n → (j ≡ i → ⊥) → todo flags j ≡ false → Clear lent w (suc i) (suc j) → narrow lent j w ≡ some w
+        stays j lj ne c clear =
+            narrow-clear lent v w (x .way .good .table) (worked-good .table) (suc i) (omega arith) (row-of i (x .way .good) li) e
+            (suc j) (omega arith) (row-of j (x .way .good) lj) (λ z. ne (omega arith)) clear (x .marks .clean j lj c)
 
         pub worked-moved : (flags' : Flags)
-            → ((m : ℕ) → m < n → (m ≡ i → ⊥) → todo flags' m ≡ (todo flags m || together lent (suc i) (suc m))) → OnTheWay lent t w flags'
-        worked-moved flags' more =
+            → ((m : ℕ) → m < n → (m ≡ i → ⊥) → todo flags' m ≡ false → (todo flags m ≡ false) × Clear lent w (suc i) (suc m))
+            → OnTheWay lent t w flags'
+        worked-moved flags' spared =
             record {
               way = way-step (laws lent dims t) li (x .way) e;
               marks =
-                  marks-again unmoved (x .marks) li (x .way .good) e
-                  (narrow-again lent v w (x .way .good .table) worked-table (suc i) (omega arith) (row-of i (x .way .good) li) e)
-                  (λ j lt ne c. or-false (sym (more j lt ne) ∙ c));
+                  marks-again
+                  (narrow-again lent v w (x .way .good .table) (worked-good .table) (suc i) (omega arith) (row-of i (x .way .good) li) e)
+                  (λ j lt ne c. let s = spared j lt ne c in stays j lt ne (s .0) (s .1));
             }
 
         pub worked-falls : (w ≡ v → ⊥) → extent lent w < extent lent v

@@ -1,6 +1,6 @@
 -- Settling by a list of the rows to narrow: a flag for each row, set while the row may still move. Assumes nothing.
 use mathlib.Core.Path.{_≡_}
-use mathlib.Core.Bool.{Bool, true, false, cond, _&&_, _||_}
+use mathlib.Core.Bool.{Bool, true, false, cond}
 use mathlib.Core.List.{List}
 use mathlib.Core.Option.{none, some}
 use Prim.Native.Nat.{ℕ, suc, _+_, _*_, _≤_, _<_}
@@ -11,8 +11,12 @@ use Rattle.fixpoint.specs.Run.{Way}
 use Rattle.fixpoint.proofs.Worklist.{Marks}
 use Rattle.sheet.specs.Layout.{Lent, isNonOverlap, namesRow, rows}
 use Rattle.sheet.specs.Settle.{Settled, Inside, extent, settleOf}
-use Rattle.settle.specs.declared.Flags.{Flags}
+use Rattle.sheet.specs.Accepted.{Block, Table}
 use Rattle.sheet.proofs.Demand3.{Good, narrow}
+use Rattle.words.specs.Places.{RowPlace}
+use Rattle.words.specs.declared.Place.{Place}
+use Rattle.nearby.specs.Listing.{Ready, Unreached}
+use Rattle.settle.specs.declared.Flags.{Flags}
 
 -- row m + 1 is to be narrowed
 unfoldable pub todo : Flags → ℕ → Bool
@@ -24,14 +28,21 @@ pub record Next (flags : Flags) (n r : ℕ) : Type 0 where
   pub set : r < n → todo flags r ≡ true
   pub none : r ≡ n → (m : ℕ) → m < n → todo flags m ≡ false
 
--- more are the flags with those set too that pass a test
-pub record Touched (n : ℕ) (flags : Flags) (test : ℕ → Bool) (more : Flags) : Type 0 where
-  pub is : (m : ℕ) → m < n → todo more m ≡ (todo flags m || test m)
+-- more are the flags with others set too: a flag that is not set was not set before, and its row is spared
+pub record Touched (n : ℕ) (flags : Flags) (spared : ℕ → Type 0) (more : Flags) : Type 0 where
+  pub left : (m : ℕ) → m < n → todo more m ≡ false → (todo flags m ≡ false) × spared m
 
 module _ (lent : Lent) where
-  -- rule r is a non-overlap rule that names rows i + 1 and m + 1
-  abbrev pub namesBoth : ℕ → ℕ → ℕ → Bool
-  namesBoth i r m = isNonOverlap lent r && namesRow lent r (suc i) && namesRow lent r (suc m)
+  -- row i of an accepted sheet, and a list that is ready
+  pub record Asks (t list : List ℤ) (i : Place) : Type 0 where
+    pub block : Block lent
+    pub table : Table lent t
+    pub ready : Ready lent list
+    pub row : RowPlace lent t i
+
+  -- if rule r keeps rows i and m + 1 apart, row i forbids row m + 1 no point of its ranges by it
+  abbrev pub Spared : List ℤ → ℕ → ℕ → ℕ → Type 0
+  Spared t i r m = isNonOverlap lent r ≡ true → namesRow lent r i ≡ true → namesRow lent r (suc m) ≡ true → Unreached lent t r i (suc m)
 
   -- v comes from t by narrowing rows, and narrowing a row that is not to be narrowed moves nothing
   pub record OnTheWay (t v : List ℤ) (flags : Flags) : Type 0 where

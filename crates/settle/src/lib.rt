@@ -1,15 +1,18 @@
 // Settling the whole table (document 01): rows are narrowed until none is left that may still move, on a copy of the table, which is
 // written back once.
 ghost use mathlib.Core.Path.{_≡_};
-ghost use Prim.Native.Nat.{ℕ, suc, _+_, _<_, _≤_};
+ghost use mathlib.Core.Bool.{true, false};
+ghost use Prim.Native.Nat.{ℕ, _+_, _<_, _≤_};
 ghost use mathlib.Core.Logic.{_⊎_};
 ghost use lib.ListN.{length};
-ghost use Rattle.sheet.specs.Layout.{lentOf, rules, namesRow};
-ghost use Rattle.sheet.specs.Settle.{together};
+ghost use Rattle.integers.specs.Bits.{bit};
+ghost use Rattle.integers.specs.Words.{word};
+ghost use Rattle.sheet.specs.Layout.{lentOf, rules, rows, namesRow};
 ghost use Rattle.sheet.specs.Accepted.{Block, Table};
 ghost use Rattle.words.specs.Places.{RulePlace};
-ghost use Rattle.nearby.specs.Listing.{Ready};
-ghost use Rattle.settle.specs.Todo.{Next, Touched, namesBoth, FoundBy};
+ghost use Rattle.nearby.specs.Listing.{Ready, Unreached};
+ghost use Rattle.nearby.specs.Index.{rulesAt};
+ghost use Rattle.settle.specs.Todo.{Next, Asks, Spared, Touched, FoundBy};
 ghost use Rattle.settle.specs.Demand.{Promise};
 use narrow::Step;
 use nearby::LIST;
@@ -50,47 +53,102 @@ fn next_row(flags: Flags, n: usize, at: usize) -> usize
     n
 }
 
-// The rows that rule r names are to be narrowed too.
-fn touched_by(block: &[i64], flags: Flags, r: Place, n: usize) -> Flags
-    requires { ⌜ Block (lentOf (now block)) × RulePlace (lentOf (now block)) r × (n ≤ 32) ⌝ }
-    ensures { λ x. ⌜ Touched n flags (λ m. namesRow (lentOf (now (block .entry))) (r .number) (suc m)) x ⌝ }
+// Whether rule r names row j, and row i can forbid it some point of its ranges by that rule.
+fn reaches(block: &[i64], table: &[i64], list: &[i64], i: Place, r: Place, j: usize) -> bool
+    requires { ⌜ Asks (lentOf (now block)) (now table) (now list) i × RulePlace (lentOf (now block)) r × (1 ≤ j)
+        × (j ≤ rows (lentOf (now block)) (now table)) ⌝ }
+    ensures { λ x. ⌜ (x ≡ false → namesRow (lentOf (now (block .entry))) (r .number) j ≡ true
+        → Unreached (lentOf (now (block .entry))) (now (table .entry)) (r .number) (i .number) j) ⌝ }
+{
+    if !words::names_row(block, r, j) {
+        return false;
+    }
+    let row = words::row_place(block, table, j);
+    nearby::reaches_row(block, table, list, r, i, row)
+}
+
+// The rows that row i reaches by rule r are to be narrowed too.
+fn touched_by(
+    block: &[i64],
+    table: &[i64],
+    list: &[i64],
+    flags: Flags,
+    i: Place,
+    n: usize,
+    r: Place,
+) -> Flags
+    requires { ⌜ Asks (lentOf (now block)) (now table) (now list) i × (n ≡ rows (lentOf (now block)) (now table))
+        × RulePlace (lentOf (now block)) r ⌝ }
+    ensures { λ x. ⌜ Touched n flags (Spared (lentOf (now (block .entry))) (now (table .entry)) (i .number) (r .number)) x ⌝ }
 {
     let mut more = flags;
     let mut m = 0;
     while m < n {
-        if words::names_row(block, r, m + 1) {
-            more.rows[m] = true;
+        if !more.rows[m] {
+            more.rows[m] = reaches(block, table, list, i, r, m + 1);
         }
         m += 1;
     }
     more
 }
 
-// If it is a non-overlap rule that names row i + 1.
-fn touched_with(block: &[i64], flags: Flags, i: usize, n: usize, r: usize) -> Flags
-    requires { ⌜ Block (lentOf (now block)) × (r < rules (lentOf (now block))) × (i < n) × (n ≤ 32) ⌝ }
-    ensures { λ x. ⌜ Touched n flags (namesBoth (lentOf (now (block .entry))) i r) x ⌝ }
+// If it is a non-overlap rule that names row i.
+fn touched_with(
+    block: &[i64],
+    table: &[i64],
+    list: &[i64],
+    flags: Flags,
+    i: Place,
+    n: usize,
+    r: usize,
+) -> Flags
+    requires { ⌜ Asks (lentOf (now block)) (now table) (now list) i × (n ≡ rows (lentOf (now block)) (now table))
+        × (r < rules (lentOf (now block))) ⌝ }
+    ensures { λ x. ⌜ Touched n flags (Spared (lentOf (now (block .entry))) (now (table .entry)) (i .number) r) x ⌝ }
 {
     let rule = words::rule_place(block, r);
     if !words::is_non_overlap(block, rule) {
         return flags;
     }
-    if !words::names_row(block, rule, i + 1) {
+    let number = i.number;
+    if !words::names_row(block, rule, number) {
         return flags;
     }
-    touched_by(block, flags, rule, n)
+    touched_by(block, table, list, flags, i, n, rule)
 }
 
-// The rows that a non-overlap rule names together with row i + 1 are to be narrowed too.
-fn touched(block: &[i64], flags: Flags, i: usize, n: usize) -> Flags
-    requires { ⌜ Block (lentOf (now block)) × (i < n) × (n ≤ 32) ⌝ }
-    ensures { λ x. ⌜ Touched n flags (λ m. together (lentOf (now (block .entry))) (suc i) (suc m)) x ⌝ }
+// If the rule counts.
+fn touched_if(
+    block: &[i64],
+    table: &[i64],
+    list: &[i64],
+    flags: Flags,
+    i: Place,
+    n: usize,
+    r: usize,
+) -> Flags
+    requires { ⌜ Asks (lentOf (now block)) (now table) (now list) i × (n ≡ rows (lentOf (now block)) (now table))
+        × (r < rules (lentOf (now block))) ⌝ }
+    ensures { λ x. ⌜ Touched n flags (λ m. bit (word (now (list .entry)) rulesAt) r ≡ true
+        → Spared (lentOf (now (block .entry))) (now (table .entry)) (i .number) r m) x ⌝ }
+{
+    if !nearby::rule_counts(block, list, r) {
+        return flags;
+    }
+    touched_with(block, table, list, flags, i, n, r)
+}
+
+// The rows that row i, which moved, reaches by some rule are to be narrowed too.
+fn touched(block: &[i64], table: &[i64], list: &[i64], flags: Flags, i: Place, n: usize) -> Flags
+    requires { ⌜ Asks (lentOf (now block)) (now table) (now list) i × (n ≡ rows (lentOf (now block)) (now table)) ⌝ }
+    ensures { λ x. ⌜ Touched n flags (λ m. (r : ℕ) → r < rules (lentOf (now (block .entry)))
+        → Spared (lentOf (now (block .entry))) (now (table .entry)) (i .number) r m) x ⌝ }
 {
     let count = words::rules_of(block);
     let mut more = flags;
     let mut r = 0;
     while r < count {
-        more = touched_with(block, more, i, n, r);
+        more = touched_if(block, table, list, more, i, n, r);
         r += 1;
     }
     more
@@ -129,7 +187,7 @@ fn settle_rows(block: &[i64], table: &mut [i64], list: &mut [i64]) -> bool
             }
             Step::Still => {}
             Step::Moved => {
-                flags = touched(block, flags, i, n);
+                flags = touched(block, table, list, flags, row, n);
             }
         }
         flags.rows[i] = false;

@@ -2,7 +2,7 @@
 -- narrows row after row until nothing moves. That the definition finds what the statement asks is proofs/Demand3.antt.
 -- A finding is an option: none is 'no layout', and the table is unchanged; some table is 'settled', at that. Assumes nothing.
 use mathlib.Core.Path.{_≡_}
-use mathlib.Core.Bool.{Bool, true, _&&_}
+use mathlib.Core.Bool.{true}
 use mathlib.Core.List.{List}
 use mathlib.Core.Option.{Option}
 use Prim.Native.Nat.{ℕ, suc, _+_, _≤_, _<_}
@@ -10,11 +10,11 @@ use lib.ListN.{length}
 use lib.IntN.{ℤ}
 use lib.Signed.{_≤ℤ_}
 use Rattle.integers.specs.Integer.{nat, width}
-use Rattle.integers.specs.Below.{anyBelow, sumBelow}
+use Rattle.integers.specs.Below.{sumBelow}
 use Rattle.integers.specs.Words.{sameWords}
 use Rattle.fixpoint.specs.Finding.{Finds}
 use Rattle.fixpoint.specs.Passes.{settleBy}
-use Rattle.sheet.specs.Layout.{Lent, axes, rules, isNonOverlap, namesRow, rows, shapeSet, low, high, hasShape}
+use Rattle.sheet.specs.Layout.{Lent, axes, rows, shapeSet, low, high, hasShape}
 use Rattle.sheet.specs.Allowed.{allowed}
 use Rattle.sheet.specs.Narrow.{Reached, narrowOf}
 
@@ -48,11 +48,7 @@ module _ (lent : Lent) where
   unfoldable pub settleOf : List ℤ → Option (List ℤ)
   settleOf table = settleBy (λ m t. narrowOf lent t (suc m)) sameWords (rows lent table) extent table
 
-  -- some non-overlap rule names both rows: only then can narrowing the one move the other (proofs/Local.antt)
-  unfoldable pub together : ℕ → ℕ → Bool
-  together i j = anyBelow (rules lent) (λ r. isNonOverlap lent r && namesRow lent r i && namesRow lent r j)
-
 -- one name that opens every definition above: `unfolding settling`
 unfoldable pub settling : Unit {0}
-unfolding extent settleOf together
+unfolding extent settleOf
 settling = tt

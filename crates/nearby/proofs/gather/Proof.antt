@@ -1,18 +1,17 @@
 -- `gather` meets its contract: so far what the rules passed forbid is listed. Assumes nothing.
-use mathlib.Core.Path.{_≡_, refl, _∙_}
-use mathlib.Core.Bool.{true, false, _&&_}
-use mathlib.Core.List.{List}
-use Prim.Native.Nat.{ℕ, _-_, _≤_}
+use mathlib.Core.Path.{_≡_, refl, sym, _∙_, subst}
+use mathlib.Core.Bool.{false, _&&_}
+use Prim.Native.Nat.{_-_, _≤_}
 use native.Mathlib.Omega.{arith}
 use denote.Ref.{now}
-use lib.IntN.{ℤ, pos}
+use lib.IntN.{pos}
 use lib.ListN.{length}
 use borrow.Author.Needs.{needs}
 use Rattle.integers.specs.Below.{anyBelow}
 use Rattle.integers.specs.Bits.{bit}
-use Rattle.integers.proofs.Booleans.{clash}
-use Rattle.sheet.specs.Layout.{lentOf, rules}
+use Rattle.sheet.specs.Layout.{lentOf, boxes, rules}
 use Rattle.forbid.specs.Region.{ruleForbids}
+use Rattle.nearby.specs.Hull.{HullTo}
 use Rattle.nearby.specs.Listing.{Asks, Gathered, Grows}
 use Rattle.nearby.proofs.Covers.{counted-forbid}
 use Rattle.nearby.proofs.Gathers.{grows-start, grows-more, open-after, gathered-start, listed-none}
@@ -35,11 +34,10 @@ returns c = let p = c .before .pre in (p .3, listed-none _ _ _ _ _ (p .3 .long))
 returns-2 : tie.Need-returns-2 Inv-loop μ-loop
 returns-2 c = let p = c .before .before .pre in (p .3, listed-none _ _ _ _ _ (p .3 .long))
 
-hull-of-requires : tie.Need-hull-of-requires Inv-loop μ-loop
-hull-of-requires c κs =
+hull-at-requires : tie.Need-hull-at-requires Inv-loop μ-loop
+hull-at-requires c κs =
     let b = c .before in
-    let p = b .before .before .pre in
-    (p .0, p .3 .long, p .3 .index, omega (arith, b .before .if1 .left), omega (arith, b .if2 .left))
+    (b .before .before .pre .3 .long, omega (arith, b .before .if1 .left), omega (arith, b .if2 .left))
 
 set-at-requires : tie.Need-set-at-requires Inv-loop μ-loop
 set-at-requires c κs =
@@ -51,21 +49,28 @@ rules-of-requires c κs = c .before .before .before .before .before .before .pre
 
 -- before the loop
 module _ (c : tie.After-rules-of Inv-loop μ-loop) where
-  abbrev hull : tie.After-hull-of Inv-loop μ-loop
+  abbrev hull : tie.After-hull-at Inv-loop μ-loop
   hull = c .before .before .before
 
   abbrev top : tie.Start Inv-loop μ-loop
   top = c .before .before .before .before .before .before .before
 
+  from : 1 ≤ top .args .s
+  from = omega (arith, hull .before .before .before .if1 .left)
+
+  upto : top .args .s ≤ 32
+  upto = omega (arith, hull .before .before .if2 .left)
+
   asks : Asks (lentOf (now (top .args .block))) (now (top .args .table))
-      (record { i = top .args .i; s = top .args .s; hull = c .before .before .before .hull-of .result; area = top .args .area })
+      (record { i = top .args .i; s = top .args .s; hull = c .before .before .before .hull-at .result; area = top .args .area })
   asks = record {
     block = top .pre .0;
     table = top .pre .1;
     row = top .pre .2;
-    hull = hull .hull-of .ensures;
-    from = omega (arith, hull .before .before .before .if1 .left);
-    upto = omega (arith, hull .before .before .if2 .left);
+    hull = subst (HullTo (lentOf (now (top .args .block))) (top .args .s) (boxes (lentOf (now (top .args .block))))) (sym (hull .hull-at .ensures))
+        (top .pre .3 .hulls (top .args .s) from upto);
+    from = from;
+    upto = upto;
   }
 
 loop-holds : tie.Need-loop-holds Inv-loop μ-loop
@@ -128,7 +133,7 @@ gather-spec =
     μ-loop
     returns
     returns-2
-    hull-of-requires
+    hull-at-requires
     set-at-requires
     rules-of-requires
     loop-holds

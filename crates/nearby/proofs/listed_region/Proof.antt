@@ -68,7 +68,7 @@ rival-at-requires c κs =
 first-of-requires : tie.Need-first-of-requires Inv-loop μ-loop Inv-pairs μ-pairs
 first-of-requires c κs =
     let p = top (c .before .before .before .before .before .before) .pre in
-    (p .1 .long, p .1 .index, p .4, p .5)
+    (omega (arith, p .1 .long), p .1 .index, p .4, p .5)
 
 loop-holds : tie.Need-loop-holds Inv-loop μ-loop Inv-pairs μ-pairs
 loop-holds c =
@@ -129,7 +129,7 @@ after-requires : tie.Need-after-requires Inv-loop μ-loop Inv-pairs μ-pairs
 after-requires c κs =
     let b = c .before .before in
     let p = s b .pre in
-    (p .0 .block, p .1 .long, p .1 .index, b .box-place .ensures .0, p .4, p .5)
+    (p .0 .block, omega (arith, p .1 .long), p .1 .index, b .box-place .ensures .0, p .4, p .5)
 
 loop-less : tie.Need-loop-less Inv-loop μ-loop Inv-pairs μ-pairs
 loop-less c =

@@ -14,7 +14,7 @@ use Rattle.sheet.proofs.Accepted.{rows-same}
 use Rattle.nearby.specs.Listing.{Ready}
 use Rattle.settle.specs.Todo.{todo, OnTheWay, toGo}
 use Rattle.settle.proofs.Worked.{worked-start, worked-end}
-use Rattle.settle.proofs.Steps.{cleared, Turn, turn-none, turn-still, still-less, turn-moved, moved-less}
+use Rattle.settle.proofs.Steps.{cleared, Turn, turn-none, turn-still, still-less, turn-good, turn-moved, moved-less}
 use Rattle.settle.proofs.settle_rows.Statement.{statement}
 use Rattle.settle.proofs.settle_rows.Tie as tie
 
@@ -60,14 +60,13 @@ module _ (d : tie.After-narrow-row Inv-loop μ-loop) where
   l = e .before .before
 
   turn : Turn (lent l) (s l .args .table .now) (l .loop .table) (d .narrow-row .last .1 .0) (l .loop .flags) (e .before .next-row .result)
-      (d .narrow-row .result)
+      (d .before .before .before .row-place .result .number) (d .narrow-row .result)
   turn =
       record {
         dims = dims l;
         way = l .loop .inv .0;
         below = omega (arith, not-last e, l .loop .inv .1);
         few = s l .pre .1 .whole .few-rows;
-        row = d .before .before .before .row-place .result .number;
         number = d .before .before .before .row-place .ensures .1;
         told = d .narrow-row .ensures .0;
         left = d .narrow-row .ensures .1;
@@ -140,7 +139,20 @@ enum-told-3 : tie.Need-enum-told-3 Inv-loop μ-loop
 enum-told-3 c = search needs
 
 touched-requires : tie.Need-touched-requires Inv-loop μ-loop
-touched-requires c κs = let d = c .before .before .before .before in (s (l d) .pre .0, not-last (e d), few (l d))
+touched-requires c κs =
+    let told = c .before .before in
+    let d = told .before .before .before .before in
+    let place = d .before .before .before .row-place .ensures .0 in
+    let good = turn-good (turn d) (told .enum-told3 .given .1) in
+    let as-many = rows-same (lent (l d)) (d .narrow-row .last .1 .0) (s (l d) .args .table .now) (good .as-long) in (
+      record {
+        block = s (l d) .pre .0;
+        table = good .table;
+        ready = d .narrow-row .ensures .2;
+        row = record { from = place .from; upto = omega (arith, turn d .number, turn d .below, as-many); stands = place .stands };
+      },
+      omega (arith, l d .loop .inv .1, as-many),
+    )
 
 element-write-flags : tie.Need-element-write-flags Inv-loop μ-loop
 element-write-flags c = let d = c .before .before .before in omega (arith, not-last (e d), few (l d))
@@ -158,7 +170,7 @@ loop-again c =
     let d = c .before .before .before in (
       ⊎-elim
           (λ a. turn-still (turn d) (a .1 .given .1) (a .2))
-          (λ a. turn-moved (turn d) (a .1 .given .1) (a .3) (l d .loop .inv .1) (a .2 .ensures))
+          (λ a. turn-moved (turn d) (a .1 .given .1) (a .5) (l d .loop .inv .1) (a .4 .ensures))
           (c .match .came),
       l d .loop .inv .1,
       e d .before .next-row .ensures .upto,

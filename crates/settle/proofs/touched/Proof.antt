@@ -1,33 +1,36 @@
--- `settle::touched` meets its contract: after r rules a flag is set where one of them names both rows. Assumes nothing.
-use mathlib.Core.Path.{_≡_, sym, ap}
-use Prim.Native.Nat.{ℕ, _-_, _≤_}
+-- `settle::touched` meets its contract: after r rules a row whose flag is not set is spared by each of them that counts. Assumes nothing.
+use mathlib.Core.Path.{_≡_}
+use mathlib.Core.Bool.{true}
+use Prim.Native.Nat.{ℕ, suc, _-_, _≤_, _<_}
 use native.Mathlib.Omega.{arith}
-use Rattle.integers.specs.Below.{anyBelow}
-use Rattle.integers.proofs.Below.{any-zero, any-more}
+use Rattle.integers.specs.Bits.{bit}
+use Rattle.integers.specs.Words.{word}
 use Rattle.sheet.specs.Layout.{lentOf, rules}
-use Rattle.sheet.specs.Settle.{together}
-use Rattle.settle.specs.Todo.{Touched, namesBoth}
-use Rattle.settle.proofs.Turns.{touched-same, touched-more, untouched}
+use Rattle.nearby.specs.Index.{rulesAt}
+use Rattle.nearby.proofs.Covers.{unreached-covered}
+use Rattle.settle.specs.Todo.{Spared, Touched}
+use Rattle.settle.proofs.Turns.{untouched, touched-so, touched-next}
 use Rattle.settle.proofs.touched.Statement.{statement}
 use Rattle.settle.proofs.touched.Tie as tie
 
 abbrev Inv-loop : tie.InvT-loop
-Inv-loop block i n count more₀ r₀ more r =
-    (r ≤ count) × (count ≡ rules (lentOf block)) × Touched n more₀ (λ m. anyBelow r (λ q. namesBoth (lentOf block) i q m)) more
+Inv-loop block table list i n count more₀ r₀ more r =
+    (r ≤ count) × (count ≡ rules (lentOf block))
+    × Touched n more₀ (λ m. (q : ℕ) → q < r → bit (word list rulesAt) q ≡ true → Spared (lentOf block) table (i .number) q m) more
 
 abbrev μ-loop : tie.MeasureT-loop
-μ-loop block i n count more₀ r₀ more r = count - r
+μ-loop block table list i n count more₀ r₀ more r = count - r
 
 rules-of-requires : tie.Need-rules-of-requires Inv-loop μ-loop
-rules-of-requires c κs = c .pre .0 .head
+rules-of-requires c κs = c .pre .0 .block .head
 
 loop-holds : tie.Need-loop-holds Inv-loop μ-loop
-loop-holds c = (omega arith, c .rules-of .ensures, untouched (λ m h. any-zero _))
+loop-holds c = (omega arith, c .rules-of .ensures, untouched (λ m h q l. absurd (omega arith)))
 
-touched-with-requires : tie.Need-touched-with-requires Inv-loop μ-loop
-touched-with-requires c κs =
+touched-if-requires : tie.Need-touched-if-requires Inv-loop μ-loop
+touched-if-requires c κs =
     let s = c .before .before .before in
-    (s .pre .0, omega (arith, c .before .loop .inv .1), s .pre .1, s .pre .2)
+    (s .pre .0, s .pre .1, omega (arith, c .before .loop .inv .1))
 
 add-r : tie.Need-add-r Inv-loop μ-loop
 add-r c = omega (arith, c .before .loop-test .taken)
@@ -37,19 +40,21 @@ loop-less c = omega (arith, c .before .loop-test .taken)
 
 loop-again : tie.Need-loop-again Inv-loop μ-loop
 loop-again c =
-    let l = c .before .before in (
+    let l = c .before .before in
+    let a = l .before .before .args in (
       omega (arith, c .before .loop-test .taken),
       l .loop .inv .1,
-      touched-same (touched-more (l .loop .inv .2) (c .touched-with .ensures)) (λ m h. sym (any-more _ _)),
+      touched-next {spared = λ q m. bit (word (a .list .now) rulesAt) q ≡ true → Spared (lentOf (a .block .now)) (a .table .now) (a .i .number) q m}
+          (l .loop .inv .2) (c .touched-if .ensures),
     )
 
 returns : tie.Need-returns Inv-loop μ-loop
-unfolding together
 returns c =
     let l = c .before in
-    let lent = lentOf (l .before .before .args .block .now) in
-    let q : l .loop .r ≡ rules lent = omega (arith, c .loop-test .left, l .loop .inv .0, l .loop .inv .1) in
-    touched-same (l .loop .inv .2) (λ m h. ap (λ (k : ℕ). anyBelow k (λ r. namesBoth lent (l .before .before .args .i) r m)) q)
+    let s = l .before .before in
+    let a = s .args in
+    touched-so (l .loop .inv .2) (λ m h spared r k. unreached-covered (lentOf (a .block .now)) (a .table .now) (a .list .now) (s .pre .0 .ready .rules)
+    (a .i .number) (suc m) (λ q b. spared q (omega (arith, b, c .loop-test .left, l .loop .inv .1))) r k)
 
 pub touched-spec : {M : Type 1} → statement M
 touched-spec =
@@ -59,7 +64,7 @@ touched-spec =
     μ-loop
     rules-of-requires
     loop-holds
-    touched-with-requires
+    touched-if-requires
     add-r
     loop-less
     loop-again

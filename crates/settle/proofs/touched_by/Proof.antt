@@ -1,62 +1,73 @@
--- `settle::touched_by` meets its contract: the flags below m are set where the rule names their row. Assumes nothing.
+-- `settle::touched_by` meets its contract: a row below m whose flag is not set is spared by the rule. Assumes nothing.
 use mathlib.Core.Path.{_≡_, sym, ap, _∙_, subst}
 use mathlib.Core.Logic.{⊎-elim}
-use mathlib.Core.Bool.{Bool}
-use Prim.Native.Nat.{ℕ, suc, _+_, _-_, _≤_}
+use Prim.Native.Nat.{ℕ, _+_, _-_, _≤_}
 use native.Mathlib.Numerals.{add-one}
 use native.Mathlib.Omega.{arith}
 use borrow.Author.Needs.{needs}
 use lib.ListN.{length, length-set}
+use Rattle.integers.proofs.Booleans.{not-true, not-false}
 use Rattle.sheet.specs.Layout.{lentOf, namesRow}
+use Rattle.nearby.specs.Listing.{Unreached}
 use Rattle.settle.specs.declared.Flags.{Flags}
-use Rattle.settle.proofs.Turns.{Setting, setting-start, setting-on, setting-off, setting-done}
+use Rattle.settle.specs.Todo.{todo, Spared}
+use Rattle.settle.proofs.Turns.{Setting, setting-start, setting-on, setting-put, setting-done}
 use Rattle.settle.proofs.touched_by.Statement.{statement}
 use Rattle.settle.proofs.touched_by.Tie as tie
 
 abbrev Inv-loop : tie.InvT-loop
-Inv-loop block r n more₀ m₀ more m =
-    (m ≤ n) × Setting more₀ (λ q. namesRow (lentOf block) (r .number) (suc q)) m more × (length (more .rows) ≡ 32)
+Inv-loop block table list i n r more₀ m₀ more m =
+    (m ≤ n) × Setting more₀ (Spared (lentOf block) table (i .number) (r .number)) m more × (length (more .rows) ≡ 32)
 
 abbrev μ-loop : tie.MeasureT-loop
-μ-loop block r n more₀ m₀ more m = n - m
+μ-loop block table list i n r more₀ m₀ more m = n - m
+
+few : (s : tie.Start Inv-loop μ-loop) → s .args .n ≤ 32
+few s = omega (arith, s .pre .1, s .pre .0 .table .whole .few-rows)
 
 loop-holds : tie.Need-loop-holds Inv-loop μ-loop
 loop-holds c = (omega arith, setting-start, search needs)
 
-add-names-row : tie.Need-add-names-row Inv-loop μ-loop
-add-names-row c = omega arith
+element-copy-out-if1 : tie.Need-element-copy-out-if1 Inv-loop μ-loop
+element-copy-out-if1 c = omega (arith, few (c .before .before))
 
-names-row-requires : tie.Need-names-row-requires Inv-loop μ-loop
-names-row-requires c κs =
-    let s = c .before .before in
-    (s .pre .0 .head, s .pre .1, s .pre .0 .row-sets _ (s .pre .1 .below), omega arith, omega arith)
+add-reaches : tie.Need-add-reaches Inv-loop μ-loop
+add-reaches c = omega (arith, few (c .before .before .before .before))
+
+reaches-requires : tie.Need-reaches-requires Inv-loop μ-loop
+reaches-requires c κs =
+    let s = c .before .before .before .before in
+    (s .pre .0, s .pre .2, omega arith, omega (arith, s .pre .1, c .before .before .loop-test .taken))
 
 element-write-more : tie.Need-element-write-more Inv-loop μ-loop
-element-write-more c = omega arith
+element-write-more c = omega (arith, few (c .before .before .before .before .before))
 
 add-m : tie.Need-add-m Inv-loop μ-loop
-add-m c = omega arith
+add-m c = omega (arith, few (c .before .before .before .before))
 
 loop-less : tie.Need-loop-less Inv-loop μ-loop
 loop-less c = omega arith
 
 loop-again : tie.Need-loop-again Inv-loop μ-loop
+unfolding todo
 loop-again c =
     let l = c .before .before .before in
-    let s = l .before in
-    let names : ℕ → Bool = λ q. namesRow (lentOf (s .args .block .now)) (s .args .r .number) (suc q) in
-    let long = l .loop .inv .2 in
-    let at-next = ap (namesRow (lentOf (s .args .block .now)) (s .args .r .number)) (sym (add-one (l .loop .m))) in (
+    let a = l .before .args in
+    let lent = lentOf (a .block .now) in
+    let next = Setting (a .flags) (Spared lent (a .table .now) (a .i .number) (a .r .number)) (l .loop .m + 1) in
+    let long = l .loop .inv .2 in (
       omega arith,
       ⊎-elim
-          (λ a. subst (λ (x : Flags). Setting (s .args .flags) names (l .loop .m + 1) x) (sym (a .1))
-          (setting-on (l .loop .inv .1) (at-next ∙ sym (c .before .names-row .ensures) ∙ a .0 .taken) (omega arith)))
-          (λ a. subst (λ (x : Flags). Setting (s .args .flags) names (l .loop .m + 1) x) (sym (a .1))
-          (setting-off (l .loop .inv .1) (at-next ∙ sym (c .before .names-row .ensures) ∙ a .0 .left)))
+          (λ x. subst next (sym (x .2))
+          (setting-put (l .loop .inv .1) (not-true (x .0 .taken))
+          (λ e kind names-i names. subst (λ (k : ℕ). Unreached lent (a .table .now) (a .r .number) (a .i .number) k)
+          (add-one (l .loop .m)) (x .1 .ensures e (ap (namesRow lent (a .r .number)) (add-one (l .loop .m)) ∙ names)))
+          (omega (arith, long, few (l .before)))))
+          (λ x. subst next (sym (x .1)) (setting-on (l .loop .inv .1) (not-false (x .0 .left))))
           (c .if1 .came),
       ⊎-elim
-          (λ a. ap (λ (x : Flags). length (x .rows)) (a .1) ∙ simp length-set long)
-          (λ a. ap (λ (x : Flags). length (x .rows)) (a .1) ∙ long)
+          (λ x. ap (λ (f : Flags). length (f .rows)) (x .2) ∙ simp length-set long)
+          (λ x. ap (λ (f : Flags). length (f .rows)) (x .1) ∙ long)
           (c .if1 .came),
     )
 
@@ -70,8 +81,9 @@ touched-by-spec =
     Inv-loop
     μ-loop
     loop-holds
-    add-names-row
-    names-row-requires
+    element-copy-out-if1
+    add-reaches
+    reaches-requires
     element-write-more
     add-m
     loop-less

@@ -1,65 +1,56 @@
--- `settle::touched_with` meets its contract: a rule that names both rows is a non-overlap rule and names the one. Assumes nothing.
-use mathlib.Core.Path.{_≡_, sym, ap, ap₂, _∙_}
-use Prim.Native.Nat.{ℕ, suc}
-use native.Mathlib.Numerals.{add-one}
+-- `settle::touched_with` meets its contract: a rule of another kind, or that does not name row i, spares every row. Assumes nothing.
+use mathlib.Core.Path.{sym, ap, _∙_, subst}
+use Prim.Native.Nat.{ℕ}
 use native.Mathlib.Omega.{arith}
-use Rattle.integers.proofs.Booleans.{not-true, not-false}
+use Rattle.integers.proofs.Booleans.{clash, not-true}
 use Rattle.sheet.specs.Layout.{lentOf, isNonOverlap, namesRow}
-use Rattle.settle.proofs.Turns.{touched-same, untouched, first-fails, second-fails, third-left}
+use Rattle.settle.specs.Todo.{Spared, Touched}
+use Rattle.settle.proofs.Turns.{untouched}
 use Rattle.settle.proofs.touched_with.Statement.{statement}
 use Rattle.settle.proofs.touched_with.Tie as tie
 
 rule-place-requires : tie.Need-rule-place-requires
-rule-place-requires c κs = (c .pre .0 .head, c .pre .1)
+rule-place-requires c κs = (c .pre .0 .block .head, c .pre .2)
 
 is-non-overlap-requires : tie.Need-is-non-overlap-requires
 is-non-overlap-requires c κs =
     let p = c .rule-place .ensures .0 in
-    (c .before .pre .0 .head, p, c .before .pre .0 .kinds _ (p .below))
-
--- the tests' answers, of rule r and row i + 1
-kind-test : (c : tie.After-is-non-overlap) → let a = c .before .before .args in
-    c .is-non-overlap .result ≡ isNonOverlap (lentOf (a .block .now)) (a .r)
-kind-test c =
-    c .is-non-overlap .ensures ∙ ap (isNonOverlap (lentOf (c .before .before .args .block .now))) (c .before .rule-place .ensures .1)
-
-row-test : (c : tie.After-names-row) → let a = c .before .before .before .before .args in
-    c .names-row .result ≡ namesRow (lentOf (a .block .now)) (a .r) (suc (a .i))
-row-test c =
-    let d = c .before .before .before in
-    let a = d .before .args in
-    c .names-row .ensures ∙ ap₂ (namesRow (lentOf (a .block .now))) (d .rule-place .ensures .1) (add-one (a .i))
+    let b = c .before .pre .0 .block in
+    (b .head, p, b .kinds _ (p .below))
 
 returns : tie.Need-returns
-returns c = untouched (λ m h. first-fails _ _ (sym (kind-test (c .before)) ∙ not-true (c .if1 .taken)))
-
-add-names-row : tie.Need-add-names-row
-add-names-row c = omega arith
+returns c =
+    let d = c .before in
+    let lent = lentOf (d .before .before .args .block .now) in
+    let kind = d .is-non-overlap .ensures ∙ ap (isNonOverlap lent) (d .before .rule-place .ensures .1) in
+    untouched (λ m h k names-i names. clash k (sym kind ∙ not-true (c .if1 .taken)))
 
 names-row-requires : tie.Need-names-row-requires
 names-row-requires c κs =
-    let s = c .before .before .before in
+    let a = c .before .before .before .pre .0 in
     let p = c .before .before .rule-place .ensures .0 in
-    (s .pre .0 .head, p, s .pre .0 .row-sets _ (p .below), omega arith, omega arith)
+    (a .block .head, p, a .block .row-sets _ (p .below), a .row .from, omega (arith, a .row .upto, a .table .whole .few-rows))
 
 returns-2 : tie.Need-returns-2
 returns-2 c =
-    let a = c .before .before .before .before .before .args in
-    untouched (λ m h. second-fails (isNonOverlap (lentOf (a .block .now)) (a .r)) _ (sym (row-test (c .before)) ∙ not-true (c .if2 .taken)))
+    let d = c .before .before .before .before in
+    let a = d .before .args in
+    let named = c .before .names-row .ensures
+    ∙ ap (λ (r : ℕ). namesRow (lentOf (a .block .now)) r (a .i .number)) (d .rule-place .ensures .1) in
+    untouched (λ m h k names-i names. clash names-i (sym named ∙ not-true (c .if2 .taken)))
 
 touched-by-requires : tie.Need-touched-by-requires
 touched-by-requires c κs =
-    let s = c .before .before .before .before .before in
-    (s .pre .0, c .before .before .before .before .rule-place .ensures .0, s .pre .3)
+    let d = c .before .before .before .before in
+    let s = d .before in
+    (s .pre .0, s .pre .1, d .rule-place .ensures .0)
 
 returns-3 : tie.Need-returns-3
 returns-3 c =
-    let d = c .before .before .before in
-    let s = d .before .before .before in
-    touched-same (c .touched-by .ensures) (λ m h.
-    ap (λ (r : ℕ). namesRow (lentOf (s .args .block .now)) r (suc m)) (d .before .before .rule-place .ensures .1)
-    ∙ sym (third-left _ (sym (kind-test (d .before)) ∙ not-false (d .if1 .left))
-    (sym (row-test (c .before .before)) ∙ not-false (c .before .if2 .left))))
+    let d = c .before .before .before .before .before in
+    let a = d .before .args in
+    subst (λ (r : ℕ). Touched (a .n) (a .flags) (Spared (lentOf (a .block .now)) (a .table .now) (a .i .number) r) (c .touched-by .result))
+    (d .rule-place .ensures .1) (c .touched-by .ensures)
 
 pub touched-with-spec : {M : Type 1} → statement M
 touched-with-spec =
@@ -68,7 +59,6 @@ touched-with-spec =
     rule-place-requires
     is-non-overlap-requires
     returns
-    add-names-row
     names-row-requires
     returns-2
     touched-by-requires

@@ -1,17 +1,20 @@
--- `adding::add_row` meets its contract: the row itself, one that is not named and one with several shapes add nothing. Assumes nothing.
+-- `adding::add_row` meets its contract: the row itself, one that is not named, one with several shapes and one whose shape is clear of the
+-- area add nothing. Assumes nothing.
 use mathlib.Core.Path.{_≡_, refl, sym, ap, _∙_}
 use mathlib.Core.Bool.{true}
+use mathlib.Core.List.{List}
 use Prim.Native.Nat.{_≤_}
 use native.Mathlib.Omega.{arith}
 use denote.Ref.{now}
+use lib.IntN.{ℤ}
 use borrow.Author.Needs.{needs}
 use borrow.Author.Tests.{eq-eqb}
 use Rattle.integers.proofs.Booleans.{not-true, not-false}
 use Rattle.sheet.specs.Layout.{lentOf, namesRow}
-use Rattle.sheet.specs.Allowed.{setForbids}
+use Rattle.sheet.specs.Allowed.{shapesForbid, setForbids, rowForbids}
 use Rattle.forbid.proofs.Rows.{itself-none, unnamed-none, named-set, several-none, single-set}
 use Rattle.nearby.specs.Listing.{Opponent}
-use Rattle.nearby.proofs.Gathers.{grows-none, grows-by}
+use Rattle.nearby.proofs.Gathers.{grows-none, grows-clear, grows-by}
 use Rattle.nearby.proofs.adding.add_row.Statement.{statement}
 use Rattle.nearby.proofs.adding.add_row.Tie as tie
 
@@ -71,24 +74,49 @@ opponent c =
       only = o .only-shape .ensures .is _ f ∙ eq-eqb (o .only-shape .result) (o .only-shape .result) refl;
     }
 
-add-shape-requires : tie.Need-add-shape-requires
-add-shape-requires c κs =
-    let o = c .before .before in
+-- what the row forbids, its one shape forbids
+by-shape : (c : tie.Else3) (p : List ℤ) → let o = c .before in let a = top o .args in
+    rowForbids (lentOf (now (a .block))) (now (a .table)) (a .r .number) p (a .q .i .number) (a .q .s) (a .j) ≡ true
+    → shapesForbid (lentOf (now (a .block))) (now (a .table)) (a .r .number) p (a .q .i .number) (a .q .s) (o .before .row-place .result .number)
+    (o .only-shape .result) ≡ true
+by-shape c p h =
+    let o = c .before in
+    let n = named o in
+    single-set _ _ _ _ _ _ (o .only-shape .ensures) (c .if3 .left) p ∙ ap (setForbids _ _ _ p _ _) (o .before .row-place .ensures .1)
+    ∙ named-set _ _ _ _ _ _ (n .before .if1 .left) (sym (n .names-row .ensures) ∙ is-named o) p ∙ h
+
+is-shape-near-requires : tie.Need-is-shape-near-requires
+is-shape-near-requires c κs =
+    let g = c .before .before in
+    let o = g .before in
     let p = top o .pre in
-    (p .0, p .1, o .before .row-place .ensures .0, opponent (c .before), p .6)
+    let w = opponent g in
+    (p .0 .block, p .0 .table, p .1, o .before .row-place .ensures .0, p .6 .ready, w .from, w .upto, p .0 .from, p .0 .upto)
 
 same-length : tie.Need-same-length
 same-length c = search needs
 
 returns-4 : tie.Need-returns-4
 returns-4 c =
-    let g = c .before .before .before in
+    let n = c .before in
+    let g = n .before .before .before in
+    let q = top (g .before) .args .q in
+    grows-clear _ _ _ _ _ (λ p inside near h. n .is-shape-near .ensures (not-true (c .if4 .taken)) (q .i .number) p near inside (by-shape g p h))
+
+add-shape-requires : tie.Need-add-shape-requires
+add-shape-requires c κs =
+    let g = c .before .before .before .before .before in
     let o = g .before in
-    let n = named o in
-    let e = o .before .row-place .ensures .1 in
-    grows-by _ _ _ _ _ (λ p h.
-    single-set _ _ _ _ _ _ (o .only-shape .ensures) (g .if3 .left) p
-    ∙ ap (setForbids _ _ _ p _ _) e ∙ named-set _ _ _ _ _ _ (n .before .if1 .left) (sym (n .names-row .ensures) ∙ is-named o) p ∙ h) (c .before .add-shape .ensures)
+    let p = top o .pre in
+    (p .0, p .1, o .before .row-place .ensures .0, opponent g, p .6)
+
+same-length-2 : tie.Need-same-length-2
+same-length-2 c = search needs
+
+returns-5 : tie.Need-returns-5
+returns-5 c =
+    let g = c .before .before .before .before .before .before .before in
+    grows-by _ _ _ _ _ (λ p h. by-shape g p h) (c .before .add-shape .ensures)
 
 pub add-row-spec : {M : Type 1} → statement M
 add-row-spec =
@@ -100,6 +128,9 @@ add-row-spec =
     row-place-requires
     only-shape-requires
     returns-3
-    add-shape-requires
+    is-shape-near-requires
     same-length
-    returns-4)
+    returns-4
+    add-shape-requires
+    same-length-2
+    returns-5)

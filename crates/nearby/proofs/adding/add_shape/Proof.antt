@@ -34,7 +34,7 @@ first-of-requires : tie.Need-first-of-requires Inv-loop μ-loop
 first-of-requires c κs =
     let s = c .before .before in
     let g = s .pre .4 .ready in
-    (g .long, g .index, s .pre .3 .from, s .pre .3 .upto)
+    (omega (arith, g .long), g .index, s .pre .3 .from, s .pre .3 .upto)
 
 loop-holds : tie.Need-loop-holds Inv-loop μ-loop
 loop-holds c =
@@ -97,7 +97,7 @@ after-requires c κs =
     let a = c .before in
     let p = top (test a) .pre in
     let g = gathered a .ready in
-    (p .0 .block, g .long, g .index, place a .box-place .ensures .0, p .3 .from, p .3 .upto)
+    (p .0 .block, omega (arith, g .long), g .index, place a .box-place .ensures .0, p .3 .from, p .3 .upto)
 
 loop-less : tie.Need-loop-less Inv-loop μ-loop
 loop-less c =

@@ -1,112 +1,105 @@
--- `side::side_of` meets its contract: a box in the hull is forbidden no more than the hull, and a dimension that the rule does not name
--- clears nothing. Assumes nothing.
-use mathlib.Core.Path.{_≡_, sym, _∙_}
-use mathlib.Core.Bool.{true}
-use mathlib.Core.List.{List}
-use Prim.Native.Nat.{ℕ}
+-- `side::side_of` meets its contract: the box lies from its start to its end. Assumes nothing.
+use mathlib.Core.Path.{_≡_, sym, ap₂, _∙_}
+use native.Mathlib.Omega.{arith}
 use denote.Ref.{now}
-use lib.IntN.{ℤ, pos, _+ℤ_, _-ℤ_}
-use borrow.Author.Needs.{needs}
-use Rattle.integers.specs.Integer.{within}
+use lib.IntN.{_+ℤ_}
+use mir.Syntax.{w64}
+use mir.Val.{toZ, ofZ}
+use Rattle.integers.specs.Integer.{Within}
 use Rattle.integers.specs.Words.{word}
-use Rattle.integers.proofs.Booleans.{not-false, implies-true}
-use Rattle.integers.proofs.Ints.{ints, lin, v, _⊕_, _⊖_, within-true}
-use Rattle.integers.proofs.Machine.{within-by}
-use Rattle.sheet.specs.Layout.{Lent, lentOf, offset, size, low, high}
-use Rattle.sheet.specs.Allowed.{forbidFrom, forbidTo}
-use Rattle.region.proofs.Sums.{bits-back, near-back}
-use Rattle.nearby.specs.declared.hull.Hull.{Hull}
-use Rattle.nearby.specs.Hull.{InHull}
+use Rattle.integers.proofs.Machine.{Expr, bnd, _+ʷ_, bitsOf, sum-fits, exact, exact-within, within-by, within-weaken}
+use Rattle.sheet.specs.Layout.{lentOf, offset, size}
+use Rattle.region.proofs.Sums.{bits-back}
+use Rattle.nearby.proofs.Hulls.{le-of}
+use borrow.Author.Needs.{needs}
 use Rattle.nearby.proofs.side.side_of.Statement.{statement}
 use Rattle.nearby.proofs.side.side_of.Tie as tie
 
--- x and y are the ends of what box c of row j forbids to the hull: between them lies what it forbids to box b in the hull
-module _ (lent : Lent) (t : List ℤ) (r i b j c d : ℕ) (h : Hull) where
-  in-side : {x y start end : ℤ} (z : ℤ) → start ≡ word (h .start) d → end ≡ word (h .end) d
-      → x ≡ high lent t j d +ℤ offset lent c d -ℤ end +ℤ pos 1
-      → y ≡ low lent t j d +ℤ offset lent c d +ℤ size lent c d -ℤ start -ℤ pos 1
-      → InHull lent h b d → within (forbidFrom lent t r i b j c d) (forbidTo lent t r i b j c d) z ≡ true → within x y z ≡ true
-  unfolding forbidFrom forbidTo
-  in-side {x} {y} {start} {end} z es ee ex ey k e =
-      let w = within-true e in
-      let max = v (high lent t j d) in
-      let min = v (low lent t j d) in
-      let own = v (offset lent b d) in
-      let other = v (offset lent c d) in
-      omega (
-        ints,
-        lin (own ⊕ v (size lent b d)),
-        lin (max ⊕ other ⊖ own ⊖ v (size lent b d) ⊕ v (pos 1)),
-        lin (min ⊕ other ⊕ v (size lent c d) ⊖ own ⊖ v (pos 1)),
-        lin (max ⊕ other ⊖ v end ⊕ v (pos 1)),
-        lin (min ⊕ other ⊕ v (size lent c d) ⊖ v start ⊖ v (pos 1)),
-      )
+offset-of-requires : tie.Need-offset-of-requires
+offset-of-requires c κs = search needs
 
-names-dim-requires : tie.Need-names-dim-requires
-names-dim-requires c κs = let p = c .pre in (p .0 .head, p .2, p .0 .dim-sets _ (p .2 .below), p .5)
+size-of-requires : tie.Need-size-of-requires
+size-of-requires c κs = search needs
 
-sub-t13 : tie.Need-sub-t13
-sub-t13 c = search needs
+-- where the box starts and ends
+module _ (c : tie.After-size-of) where
+  abbrev s : tie.Start
+  s = c .before .before
+
+  offset-within : Within 10000 (c .before .offset-of .result)
+  offset-within = within-by (c .before .offset-of .ensures) (s .pre .0 .offsets _ _ (s .pre .4 .below) (s .pre .5))
+
+  size-within : Within 10000 (c .size-of .result)
+  size-within = within-by (c .size-of .ensures) (s .pre .0 .sizes _ _ (s .pre .4 .below) (s .pre .5))
+
+  abbrev end : Expr
+  end = bnd offset-within +ʷ bnd size-within
+
+  start-is : toZ w64 (ofZ w64 (c .before .offset-of .result)) ≡ offset (lentOf (now (s .args .block))) (s .args .c .number) (s .args .d)
+  start-is = exact (bnd offset-within) tt ∙ c .before .offset-of .ensures
+
+  end-is : toZ w64 (bitsOf end)
+      ≡ offset (lentOf (now (s .args .block))) (s .args .c .number) (s .args .d)
+      +ℤ size (lentOf (now (s .args .block))) (s .args .c .number) (s .args .d)
+  end-is = exact end tt ∙ ap₂ _+ℤ_ (c .before .offset-of .ensures) (c .size-of .ensures)
+
+  start-within : Within 20000 (toZ w64 (ofZ w64 (c .before .offset-of .result)))
+  start-within = within-by (exact (bnd offset-within) tt) (within-weaken (omega arith) offset-within)
+
+  end-within : Within 20000 (toZ w64 (bitsOf end))
+  end-within = within-by (exact end tt) (exact-within end tt)
+
+add-end : tie.Need-add-end
+add-end c = sum-fits (bnd (offset-within c)) (bnd (size-within c)) tt
+
+mul-first : tie.Need-mul-first
+mul-first c = search needs
+
+element-copy-out-first : tie.Need-element-copy-out-first
+element-copy-out-first c = search needs
+
+mul-last : tie.Need-mul-last
+mul-last c = search needs
+
+element-copy-out-last : tie.Need-element-copy-out-last
+element-copy-out-last c = search needs
+
+side-by-requires : tie.Need-side-by-requires
+side-by-requires c κs =
+    let f = c .before in
+    let z = f .before in
+    let a = s z .args in
+    let p = s z .pre in (
+      p .0,
+      p .1,
+      p .2,
+      p .3,
+      start-within z,
+      end-within z,
+      within-by (bits-back {z = word (a .t6 .start) (a .d)} (f .first .given)) (p .6 .starts (a .d)),
+      within-by (bits-back {z = word (a .t6 .end) (a .d)} (c .last .given)) (p .6 .ends (a .d)),
+      p .5,
+    )
 
 returns : tie.Need-returns
-returns c = record { from-within = omega ints; to-within = omega ints; holds = λ i b z h near e. omega ints }
-
-mul-end : tie.Need-mul-end
-mul-end c = search needs
-
-element-copy-out-end : tie.Need-element-copy-out-end
-element-copy-out-end c = search needs
-
-mul-start : tie.Need-mul-start
-mul-start c = search needs
-
-element-copy-out-start : tie.Need-element-copy-out-start
-element-copy-out-start c = search needs
-
-side-from-requires : tie.Need-side-from-requires
-side-from-requires c κs =
-    let e = c .before in
-    let s = e .before .before .before in
-    let p = s .pre in
-    (p .0, p .1, p .3, p .4, p .5, within-by (bits-back {z = word (s .args .t6 .end) (s .args .d)} (e .end .given)) (p .6 .ends (s .args .d)))
-
-side-to-requires : tie.Need-side-to-requires
-side-to-requires c κs =
-    let b = c .before in
-    let s = b .before .before .before .before in
-    let p = s .pre in
-    (p .0, p .1, p .3, p .4, p .5, within-by (bits-back {z = word (s .args .t6 .start) (s .args .d)} (b .start .given)) (p .6 .starts (s .args .d)))
-
-returns-2 : tie.Need-returns-2
-returns-2 c =
-    let f = c .before in
-    let b = f .before in
-    let l = b .before in
-    let n = l .before .before in
-    let a = n .before .args in
-    let x = f .side-from .ensures in
-    let y = c .side-to .ensures in
-    record {
-      from-within = within-by (near-back (x .1)) (x .1);
-      to-within = within-by (near-back (y .1)) (y .1);
-      holds = λ i k z h near e.
-          in-side (lentOf (now (a .block))) (now (a .table)) (a .r .number) i k (a .j .number) (a .c .number) (a .d) (a .t6) z
-          (bits-back {z = word (a .t6 .start) (a .d)} (b .start .given)) (bits-back {z = word (a .t6 .end) (a .d)} (l .end .given))
-          (near-back (x .1) ∙ x .0) (near-back (y .1) ∙ y .0) h
-          (implies-true e (sym (n .names-dim .ensures) ∙ not-false (l .before .if1 .left)));
-    }
+returns c =
+    let l = c .before in
+    let f = l .before in
+    let z = f .before in
+    let a = s z .args in
+    c .side-by .ensures (a .c .number) (a .t6) (le-of (start-is z)) (le-of (sym (end-is z)))
+    (bits-back {z = word (a .t6 .start) (a .d)} (f .first .given)) (bits-back {z = word (a .t6 .end) (a .d)} (l .last .given))
 
 pub side-of-spec : {M : Type 1} → statement M
 side-of-spec =
     tie.close
     (tie.spec
-    names-dim-requires
-    sub-t13
-    returns
-    mul-end
-    element-copy-out-end
-    mul-start
-    element-copy-out-start
-    side-from-requires
-    side-to-requires
-    returns-2)
+    offset-of-requires
+    size-of-requires
+    add-end
+    mul-first
+    element-copy-out-first
+    mul-last
+    element-copy-out-last
+    side-by-requires
+    returns)

@@ -14,6 +14,7 @@ use crate::entry;
 use crate::entry::Query;
 use crate::entry::Rival;
 use crate::index;
+use crate::layout::ENTRY;
 use words::Place;
 
 // Lists one box of another row, if it can forbid a point of the area and there is room.
@@ -41,7 +42,7 @@ fn add_box(
         return nearby;
     }
     let at = entry::entry_at(list, e);
-    if list.len() - at < 11 {
+    if list.len() - at < ENTRY {
         return Nearby {
             count: e,
             whole: false,

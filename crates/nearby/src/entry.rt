@@ -12,6 +12,8 @@ ghost use Rattle.words.specs.Places.{BoxPlace, RulePlace, RowPlace};
 ghost use Rattle.nearby.specs.Hull.{Modest, Reaches};
 ghost use Rattle.nearby.specs.Listing.{entryAt, entryHolds, entryRule, entryRow, entryBox, SameTo, Entered, Clear, ShapeClear, Ready, Names};
 use crate::hull::Hull;
+use crate::layout::ENTRY;
+use crate::layout::HEAD;
 use crate::side;
 use region::Area;
 use region::COORDINATES;
@@ -39,7 +41,7 @@ pub fn entry_at(list: &[i64], e: usize) -> usize
     requires { ⌜ entryAt e ≤ length (now list) ⌝ }
     ensures { λ r. ⌜ r ≡ entryAt e ⌝ }
 {
-    417 + e * 11
+    HEAD + e * ENTRY
 }
 
 // Whether z lies between two words, the first of which stands at `at`.

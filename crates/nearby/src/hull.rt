@@ -12,6 +12,8 @@ ghost use Rattle.nearby.specs.Index.{Index};
 ghost use Rattle.nearby.specs.Hull.{startsAt, fourAt, hullAt, HullTo, InHull, Widens};
 ghost use Rattle.nearby.specs.Listing.{SameTo};
 use crate::index;
+use crate::layout::ENDS;
+use crate::layout::STARTS;
 use region::COORDINATES;
 use words::Place;
 
@@ -103,8 +105,8 @@ pub fn hull_at(list: &[i64], s: usize) -> Hull
     requires { ⌜ (417 ≤ length (now list)) × (1 ≤ s) × (s ≤ 32) ⌝ }
     ensures { λ r. ⌜ r ≡ hullAt (now (list .entry)) s ⌝ }
 {
-    let start = four_at(list, 153 + 8 * s);
-    let end = four_at(list, 157 + 8 * s);
+    let start = four_at(list, STARTS + 8 * s);
+    let end = four_at(list, ENDS + 8 * s);
     Hull { start, end }
 }
 
@@ -117,8 +119,8 @@ fn write_hull(block: &[i64], list: &mut [i64], s: usize)
     let hull = hull_of(block, list, s);
     let start = hull.start;
     let end = hull.end;
-    put_four(list, 153 + 8 * s, start);
-    put_four(list, 157 + 8 * s, end);
+    put_four(list, STARTS + 8 * s, start);
+    put_four(list, ENDS + 8 * s, end);
 }
 
 // Writes the hull of each shape, from shape 1 on.

@@ -10,6 +10,7 @@ ghost use Rattle.sheet.specs.Accepted.{Block};
 ghost use Rattle.words.specs.Places.{BoxPlace};
 ghost use Rattle.nearby.specs.Index.{firstAt, Index};
 ghost use Rattle.nearby.specs.Linked.{IndexFrom};
+use crate::layout::FIRST;
 use words::Place;
 
 // Writes a count of boxes.
@@ -28,7 +29,7 @@ fn clear(list: &mut [i64], n: usize)
 {
     let mut s = 1;
     while s <= 32 {
-        put(list, 127 + s, n);
+        put(list, FIRST + s, n);
         s += 1;
     }
 }
@@ -43,9 +44,9 @@ fn link(block: &[i64], list: &mut [i64], b: usize)
     let place = words::box_place(block, b);
     let s = words::shape_number(block, place);
     if 1 <= s && s <= 32 {
-        let first = words::count_at(list, 127 + s);
+        let first = words::count_at(list, FIRST + s);
         put(list, b, first);
-        put(list, 127 + s, b);
+        put(list, FIRST + s, b);
     } else {
         put(list, b, b + 1);
     }
@@ -72,7 +73,7 @@ pub fn first_of(block: &[i64], list: &[i64], s: usize) -> usize
     ensures { λ r. ⌜ (r ≤ boxes (lentOf (now (block .entry))))
         × ((c : ℕ) → c < r → isOf (lentOf (now (block .entry))) c s ≡ false) ⌝ }
 {
-    words::count_at(list, 127 + s)
+    words::count_at(list, FIRST + s)
 }
 
 // A box after box b such that none between them is one of shape s; the number of boxes where there is none.

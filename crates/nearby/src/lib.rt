@@ -3,6 +3,7 @@ mod adding;
 mod entry;
 mod hull;
 mod index;
+mod layout;
 mod rules;
 mod side;
 
@@ -21,6 +22,7 @@ ghost use Rattle.forbid.specs.Region.{Forbids, Asked};
 ghost use Rattle.nearby.specs.Index.{rulesAt};
 ghost use Rattle.nearby.specs.Listing.{Ready, Listed, ListedAt, ShapeClear, Unreached};
 use crate::entry::Query;
+use crate::layout::RULES;
 use forbid::Region;
 use forbid::pair;
 use forbid::pair::Pair;
@@ -28,10 +30,7 @@ use region::Area;
 use region::COORDINATES;
 use words::Place;
 
-// The words that a list begins with; a list has at least these.
-pub const HEAD: usize = 417;
-
-// How many words a caller lends for a list.
+// How many words a caller lends for a list: the head, and 540 entries.
 pub const LIST: usize = 6357;
 
 // The entries of a list, and whether it holds every one that can forbid a point of its area.
@@ -78,7 +77,7 @@ pub fn gather(
     }
     let hull = hull::hull_at(list, s);
     let q = Query { i, s, hull, area };
-    let counted = words::set_at(list, 160);
+    let counted = words::set_at(list, RULES);
     let n = words::rules_of(block);
     let mut found = Nearby {
         count: 0,
@@ -204,7 +203,7 @@ pub fn rule_counts(block: &[i64], list: &[i64], r: usize) -> bool
     requires { ⌜ Block (lentOf (now block)) × Ready (lentOf (now block)) (now list) × (r < rules (lentOf (now block))) ⌝ }
     ensures { λ x. ⌜ x ≡ bit (word (now (list .entry)) rulesAt) r ⌝ }
 {
-    words::bit_at(list, 160, r)
+    words::bit_at(list, RULES, r)
 }
 
 // Whether row j can forbid row i some point of its ranges by rule r.

@@ -12,10 +12,8 @@ ghost use Rattle.sheet.specs.Accepted.{Block};
 ghost use Rattle.words.specs.Places.{RulePlace};
 ghost use Rattle.nearby.specs.Index.{Rules};
 ghost use Rattle.nearby.specs.Counted.{Covers, CoveredBy, CountedTo};
+use crate::layout::RULES;
 use words::Place;
-
-// Where the set of the rules that count stands.
-const RULES: usize = 160;
 
 // Whether each member of the one set is one of the other.
 fn is_part(a: u32, b: u32) -> bool

@@ -13,6 +13,7 @@ ghost use Rattle.nearby.specs.declared.hull.Hull.{Hull};
 ghost use Rattle.nearby.specs.Hull.{hullAt, Modest, InHull, Reaches};
 ghost use Rattle.nearby.specs.Listing.{Ready};
 use crate::hull::Hull;
+use crate::layout::STARTS;
 use region::REACH;
 use words::Place;
 
@@ -111,8 +112,8 @@ pub fn shape_side(
     ensures { λ x. ⌜ ((c : ℕ) → InHull (lentOf (now (block .entry))) (hullAt (now (list .entry)) t) c d
         → Reaches (lentOf (now (block .entry))) (now (table .entry)) (r .number) (j .number) c (hullAt (now (list .entry)) s) d x) ⌝ }
 {
-    let other = 153 + 8 * t + d;
-    let own = 153 + 8 * s + d;
+    let other = STARTS + 8 * t + d;
+    let own = STARTS + 8 * s + d;
     let start = words::word_at(list, other);
     let end = words::word_at(list, other + 4);
     let first = words::word_at(list, own);

@@ -1,0 +1,18 @@
+// Where the words of a list stand: the head, made once a call, and the entries after it (specs/Index, specs/Hull, specs/Listing).
+// Word b is the next box of box b's shape.
+
+// The first box of shape s stands at FIRST + s.
+pub const FIRST: usize = 127;
+
+// The set of the rules that count.
+pub const RULES: usize = 160;
+
+// The hull of shape s: four starts from STARTS + 8 * s on, four ends from ENDS + 8 * s on.
+pub const STARTS: usize = 153;
+
+pub const ENDS: usize = 157;
+
+// The words of the head, and of an entry.
+pub const HEAD: usize = 417;
+
+pub const ENTRY: usize = 11;

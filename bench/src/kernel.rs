@@ -20,15 +20,16 @@ pub struct Span {
 mod c {
     use super::{Bound, Span};
 
+    // A run is its first word and its length: `block` and `b`, `table` and `t`.
     type Words = *const i64;
 
     unsafe extern "C" {
-        pub fn zk_refusal(block: Words, block_len: usize, table: Words, table_len: usize) -> i64;
+        pub fn zk_refusal(block: Words, b: usize, table: Words, t: usize) -> i64;
         pub fn zk_point_allowed(
             block: Words,
-            block_len: usize,
+            b: usize,
             table: Words,
-            table_len: usize,
+            t: usize,
             row: i64,
             shape: i64,
             p0: i64,
@@ -36,28 +37,12 @@ mod c {
             p2: i64,
             p3: i64,
         ) -> i64;
-        pub fn zk_check_placement(block: Words, block_len: usize, table: Words, table_len: usize) -> i64;
-        pub fn zk_least(
-            block: Words,
-            block_len: usize,
-            table: Words,
-            table_len: usize,
-            row: i64,
-            shape: i64,
-            dimension: i64,
-        ) -> Bound;
-        pub fn zk_greatest(
-            block: Words,
-            block_len: usize,
-            table: Words,
-            table_len: usize,
-            row: i64,
-            shape: i64,
-            dimension: i64,
-        ) -> Bound;
-        pub fn zk_narrow(block: Words, block_len: usize, table: *mut i64, table_len: usize, row: i64) -> i64;
-        pub fn zk_settle(block: Words, block_len: usize, table: *mut i64, table_len: usize) -> i64;
-        pub fn zk_row_span(block: Words, block_len: usize, table: Words, table_len: usize, row: i64) -> Span;
+        pub fn zk_check_placement(block: Words, b: usize, table: Words, t: usize) -> i64;
+        pub fn zk_least(block: Words, b: usize, table: Words, t: usize, row: i64, shape: i64, dim: i64) -> Bound;
+        pub fn zk_greatest(block: Words, b: usize, table: Words, t: usize, row: i64, shape: i64, dim: i64) -> Bound;
+        pub fn zk_narrow(block: Words, b: usize, table: *mut i64, t: usize, row: i64) -> i64;
+        pub fn zk_settle(block: Words, b: usize, table: *mut i64, t: usize) -> i64;
+        pub fn zk_row_span(block: Words, b: usize, table: Words, t: usize, row: i64) -> Span;
     }
 }
 

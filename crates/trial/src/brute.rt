@@ -43,7 +43,7 @@ fn box_inside(block: &[i64], r: usize, b: usize, p: [i64; 4]) -> bool {
     true
 }
 
-pub fn shape_inside(block: &[i64], r: usize, s: usize, p: [i64; 4]) -> bool {
+pub(crate) fn shape_inside(block: &[i64], r: usize, s: usize, p: [i64; 4]) -> bool {
     let n = layout::boxes(block);
     for b in 0..n {
         if layout::is_of(block, b, s) && !box_inside(block, r, b, p) {
@@ -115,7 +115,7 @@ fn shape_forbids(
 }
 
 // How many shapes a set holds, and the last of them.
-pub fn shape_count(set: i64) -> usize {
+pub(crate) fn shape_count(set: i64) -> usize {
     let mut n = 0;
     for s in 0..32 {
         if numbers::has(set, s) {
@@ -125,7 +125,7 @@ pub fn shape_count(set: i64) -> usize {
     n
 }
 
-pub fn last_shape(set: i64) -> usize {
+pub(crate) fn last_shape(set: i64) -> usize {
     let mut last = 0;
     for s in 0..32 {
         if numbers::has(set, s) {
@@ -170,7 +170,7 @@ fn rule_allows(block: &[i64], table: &[i64], r: usize, i: usize, s: usize, p: [i
     !rule_forbids(block, table, r, i, s, p)
 }
 
-pub fn allowed(block: &[i64], table: &[i64], i: usize, s: usize, p: [i64; 4]) -> bool {
+pub(crate) fn allowed(block: &[i64], table: &[i64], i: usize, s: usize, p: [i64; 4]) -> bool {
     if !in_ranges(block, table, i, p) {
         return false;
     }
@@ -200,7 +200,7 @@ fn width(block: &[i64], table: &[i64], i: usize, d: usize, more: i64) -> usize {
     numbers::at_most(n, plus(MOST_POINTS, 1))
 }
 
-pub fn points(block: &[i64], table: &[i64], i: usize, more: i64) -> usize {
+pub(crate) fn points(block: &[i64], table: &[i64], i: usize, more: i64) -> usize {
     let mut n = 1;
     for d in 0..4 {
         n = numbers::place(0, n, width(block, table, i, d, more));
@@ -218,7 +218,7 @@ fn first_coordinate(block: &[i64], table: &[i64], i: usize, d: usize, more: i64)
 }
 
 // Point m of them.
-pub fn point(block: &[i64], table: &[i64], i: usize, m: usize, more: i64) -> [i64; 4] {
+pub(crate) fn point(block: &[i64], table: &[i64], i: usize, m: usize, more: i64) -> [i64; 4] {
     let mut p = [0i64; 4];
     let mut rest = m;
     for d in 0..4 {
@@ -231,7 +231,7 @@ pub fn point(block: &[i64], table: &[i64], i: usize, m: usize, more: i64) -> [i6
 }
 
 // Whether every row has few enough points to try.
-pub fn has_few_points(block: &[i64], table: &[i64]) -> bool {
+pub(crate) fn has_few_points(block: &[i64], table: &[i64]) -> bool {
     let n = layout::rows(block, table);
     for i in 0..n {
         if points(block, table, i, 1) > MOST_POINTS {
@@ -251,7 +251,7 @@ pub struct Reach {
     pub high: [i64; 4],
 }
 
-pub fn nowhere() -> Reach {
+pub(crate) fn nowhere() -> Reach {
     let low = [0i64; 4];
     let high = [0i64; 4];
     Reach { set: 0, low, high }
@@ -292,7 +292,7 @@ fn with_point(block: &[i64], table: &[i64], i: usize, s: usize, m: usize, r: Rea
     )
 }
 
-pub fn shape_reach(block: &[i64], table: &[i64], i: usize, s: usize) -> Reach {
+pub(crate) fn shape_reach(block: &[i64], table: &[i64], i: usize, s: usize) -> Reach {
     let mut r = nowhere();
     let n = points(block, table, i, 0);
     for m in 0..n {
@@ -358,7 +358,7 @@ fn is_row(block: &[i64], table: &[i64], i: usize, r: Reach) -> bool {
 // What narrowing a row did to the table.
 const MOVED: i64 = 1;
 
-pub fn narrow_row(block: &[i64], table: &mut [i64], i: usize) -> i64 {
+pub(crate) fn narrow_row(block: &[i64], table: &mut [i64], i: usize) -> i64 {
     let r = row_reach(block, table, i);
     if r.set == 0 {
         return NONE;
@@ -387,7 +387,7 @@ fn pass(block: &[i64], table: &mut [i64]) -> i64 {
 
 // Passes until nothing moves. A pass that moves a word takes at least one number from a range or a shape from a set, so that the small
 // sheets of the trial are done long before the last turn. Where there is no layout the words are those at that moment.
-pub fn settle_rows(block: &[i64], table: &mut [i64]) -> i64 {
+pub(crate) fn settle_rows(block: &[i64], table: &mut [i64]) -> i64 {
     for _ in 0..10000usize {
         let x = pass(block, table);
         if x != MOVED {

@@ -86,7 +86,7 @@ fn rule_holds(block: &[i64], table: &[i64], r: usize) -> bool {
     true
 }
 
-pub fn is_good(block: &[i64], table: &[i64]) -> bool {
+pub(crate) fn is_good(block: &[i64], table: &[i64]) -> bool {
     let n = layout::rules(block);
     for r in 0..n {
         if !rule_holds(block, table, r) {

@@ -22,7 +22,7 @@ fn is_refusal(g: i64, finding: i64) -> bool {
     0 < g && g == finding
 }
 
-pub fn point_is(answer: PointTest, finding: i64) -> bool {
+pub(crate) fn point_is(answer: PointTest, finding: i64) -> bool {
     match answer {
         PointTest::Allowed => finding == 0,
         PointTest::NotAllowed => finding == NONE,
@@ -30,7 +30,7 @@ pub fn point_is(answer: PointTest, finding: i64) -> bool {
     }
 }
 
-pub fn bound_is(answer: Bound, finding: i64, x: i64) -> bool {
+pub(crate) fn bound_is(answer: Bound, finding: i64, x: i64) -> bool {
     match answer {
         Bound::At(y) => finding == 0 && x == y,
         Bound::Nothing => finding == NONE,
@@ -38,7 +38,7 @@ pub fn bound_is(answer: Bound, finding: i64, x: i64) -> bool {
     }
 }
 
-pub fn narrowing_is(answer: Narrowing, finding: i64) -> bool {
+pub(crate) fn narrowing_is(answer: Narrowing, finding: i64) -> bool {
     match answer {
         Narrowing::Narrowed => finding == 0,
         Narrowing::NoPlace => finding == NONE,
@@ -46,7 +46,7 @@ pub fn narrowing_is(answer: Narrowing, finding: i64) -> bool {
     }
 }
 
-pub fn settling_is(answer: Settling, finding: i64) -> bool {
+pub(crate) fn settling_is(answer: Settling, finding: i64) -> bool {
     match answer {
         Settling::Settled => finding == 0,
         Settling::NoLayout => finding == NONE,
@@ -54,7 +54,7 @@ pub fn settling_is(answer: Settling, finding: i64) -> bool {
     }
 }
 
-pub fn verdict_is(answer: Verdict, finding: i64) -> bool {
+pub(crate) fn verdict_is(answer: Verdict, finding: i64) -> bool {
     match answer {
         Verdict::Good => finding == 0,
         Verdict::NotGood => finding == NONE,
@@ -396,7 +396,7 @@ fn accepted(
 }
 
 // `fixed`, `kernel` and `ours` are runs of the table's length to work in.
-pub fn sheet(
+pub(crate) fn sheet(
     t: Tally,
     seed: &mut usize,
     block: &[i64],

@@ -166,7 +166,7 @@ fn position(p: [i64; FIELDS]) -> bool {
     )
 }
 
-pub fn positions() -> Tally {
+pub(crate) fn positions() -> Tally {
     let mut t = Tally::new();
     for i in 0..POSITIONS {
         t = t.with_position(position(TABLE[i]));

@@ -5,7 +5,7 @@ use super::catalogue;
 use super::refusals;
 use super::refusals::index;
 
-pub fn point(block: &[i64], table: &[i64], row: i64, shape: i64, p: [i64; 4]) -> i64 {
+pub(crate) fn point(block: &[i64], table: &[i64], row: i64, shape: i64, p: [i64; 4]) -> i64 {
     let g = refusals::shape_refusal(block, table, row, shape);
     if g > 0 {
         return g;
@@ -17,7 +17,7 @@ pub fn point(block: &[i64], table: &[i64], row: i64, shape: i64, p: [i64; 4]) ->
     }
 }
 
-pub fn narrowing(block: &[i64], table: &mut [i64], row: i64) -> i64 {
+pub(crate) fn narrowing(block: &[i64], table: &mut [i64], row: i64) -> i64 {
     let g = refusals::row_refusal(block, table, row);
     if g > 0 {
         return g;
@@ -30,7 +30,7 @@ pub fn narrowing(block: &[i64], table: &mut [i64], row: i64) -> i64 {
 }
 
 // Where there is no layout the table's words are those at the end of the search.
-pub fn settling(block: &[i64], table: &mut [i64]) -> i64 {
+pub(crate) fn settling(block: &[i64], table: &mut [i64]) -> i64 {
     let g = refusals::refusal(block, table);
     if g > 0 {
         return g;
@@ -38,7 +38,7 @@ pub fn settling(block: &[i64], table: &mut [i64]) -> i64 {
     brute::settle_rows(block, table)
 }
 
-pub fn verdict(block: &[i64], table: &[i64]) -> i64 {
+pub(crate) fn verdict(block: &[i64], table: &[i64]) -> i64 {
     let g = refusals::placement_refusal(block, table);
     if g > 0 {
         return g;

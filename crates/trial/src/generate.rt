@@ -277,7 +277,7 @@ fn spoiled_again(seed: &mut usize, block: &mut [i64], table: &mut [i64], z: Leng
 }
 
 // A sheet; every fourth is spoiled.
-pub fn sheet(seed: &mut usize, block: &mut [i64], table: &mut [i64]) -> Lengths {
+pub(crate) fn sheet(seed: &mut usize, block: &mut [i64], table: &mut [i64]) -> Lengths {
     clear(table);
     let z = accepted(seed, block, table);
     if one_of(seed, 4) {
@@ -315,7 +315,7 @@ fn one_shape(set: i64, s: usize) -> i64 {
 }
 
 // Every row at a shape and a point of its own.
-pub fn placement(seed: &mut usize, block: &[i64], table: &mut [i64]) {
+pub(crate) fn placement(seed: &mut usize, block: &[i64], table: &mut [i64]) {
     let k = layout::dims(block);
     let n = layout::rows(block, table);
     for i in 0..n {

@@ -10,33 +10,33 @@ use super::numbers::word_of;
 // ---- places
 
 // The words of a row, and of a box record.
-pub fn row_len(k: usize) -> usize {
+pub(crate) fn row_len(k: usize) -> usize {
     place(1, 2, k)
 }
 
-pub fn box_place(k: usize, b: usize) -> usize {
+pub(crate) fn box_place(k: usize, b: usize) -> usize {
     place(3, b, row_len(k))
 }
 
-pub fn rule_place(k: usize, boxes: usize, r: usize) -> usize {
+pub(crate) fn rule_place(k: usize, boxes: usize, r: usize) -> usize {
     place(box_place(k, boxes), r, place(3, 2, k))
 }
 
-pub fn row_place(k: usize, i: usize) -> usize {
+pub(crate) fn row_place(k: usize, i: usize) -> usize {
     place(0, i, row_len(k))
 }
 
 // ---- the block
 
-pub fn dims(block: &[i64]) -> usize {
+pub(crate) fn dims(block: &[i64]) -> usize {
     count_of(at(block, 0))
 }
 
-pub fn boxes(block: &[i64]) -> usize {
+pub(crate) fn boxes(block: &[i64]) -> usize {
     count_of(at(block, 1))
 }
 
-pub fn rules(block: &[i64]) -> usize {
+pub(crate) fn rules(block: &[i64]) -> usize {
     count_of(at(block, 2))
 }
 
@@ -44,20 +44,20 @@ fn box_word(block: &[i64], b: usize, w: usize) -> i64 {
     at(block, plus(box_place(dims(block), b), w))
 }
 
-pub fn shape(block: &[i64], b: usize) -> i64 {
+pub(crate) fn shape(block: &[i64], b: usize) -> i64 {
     box_word(block, b, 0)
 }
 
 // Whether box b is one of shape s.
-pub fn is_of(block: &[i64], b: usize, s: usize) -> bool {
+pub(crate) fn is_of(block: &[i64], b: usize, s: usize) -> bool {
     shape(block, b) == shape_number(s)
 }
 
-pub fn offset(block: &[i64], b: usize, d: usize) -> i64 {
+pub(crate) fn offset(block: &[i64], b: usize, d: usize) -> i64 {
     box_word(block, b, plus(1, d))
 }
 
-pub fn size(block: &[i64], b: usize, d: usize) -> i64 {
+pub(crate) fn size(block: &[i64], b: usize, d: usize) -> i64 {
     box_word(block, b, plus(plus(1, dims(block)), d))
 }
 
@@ -65,38 +65,38 @@ fn rule_word(block: &[i64], r: usize, w: usize) -> i64 {
     at(block, plus(rule_place(dims(block), boxes(block), r), w))
 }
 
-pub fn kind(block: &[i64], r: usize) -> i64 {
+pub(crate) fn kind(block: &[i64], r: usize) -> i64 {
     rule_word(block, r, 0)
 }
 
-pub fn dim_set(block: &[i64], r: usize) -> i64 {
+pub(crate) fn dim_set(block: &[i64], r: usize) -> i64 {
     rule_word(block, r, 1)
 }
 
-pub fn row_set(block: &[i64], r: usize) -> i64 {
+pub(crate) fn row_set(block: &[i64], r: usize) -> i64 {
     rule_word(block, r, 2)
 }
 
-pub fn names_dim(block: &[i64], r: usize, d: usize) -> bool {
+pub(crate) fn names_dim(block: &[i64], r: usize, d: usize) -> bool {
     has(dim_set(block, r), d)
 }
 
-pub fn names_row(block: &[i64], r: usize, i: usize) -> bool {
+pub(crate) fn names_row(block: &[i64], r: usize, i: usize) -> bool {
     has(row_set(block, r), i)
 }
 
-pub fn room_low(block: &[i64], r: usize, d: usize) -> i64 {
+pub(crate) fn room_low(block: &[i64], r: usize, d: usize) -> i64 {
     rule_word(block, r, place(3, 2, d))
 }
 
-pub fn room_high(block: &[i64], r: usize, d: usize) -> i64 {
+pub(crate) fn room_high(block: &[i64], r: usize, d: usize) -> i64 {
     rule_word(block, r, place(4, 2, d))
 }
 
 // ---- the table
 
 // The n from 1 to 32 of which the table's length is n(1 + 2k), or 0.
-pub fn rows(block: &[i64], table: &[i64]) -> usize {
+pub(crate) fn rows(block: &[i64], table: &[i64]) -> usize {
     for n in 1..33 {
         if table.len() == row_place(dims(block), n) {
             return n;
@@ -109,28 +109,28 @@ fn row_word(block: &[i64], table: &[i64], i: usize, w: usize) -> i64 {
     at(table, plus(row_place(dims(block), i), w))
 }
 
-pub fn shape_set(block: &[i64], table: &[i64], i: usize) -> i64 {
+pub(crate) fn shape_set(block: &[i64], table: &[i64], i: usize) -> i64 {
     row_word(block, table, i, 0)
 }
 
-pub fn has_shape(block: &[i64], table: &[i64], i: usize, s: usize) -> bool {
+pub(crate) fn has_shape(block: &[i64], table: &[i64], i: usize, s: usize) -> bool {
     has(shape_set(block, table, i), s)
 }
 
-pub fn low(block: &[i64], table: &[i64], i: usize, d: usize) -> i64 {
+pub(crate) fn low(block: &[i64], table: &[i64], i: usize, d: usize) -> i64 {
     row_word(block, table, i, place(1, 2, d))
 }
 
-pub fn high(block: &[i64], table: &[i64], i: usize, d: usize) -> i64 {
+pub(crate) fn high(block: &[i64], table: &[i64], i: usize, d: usize) -> i64 {
     row_word(block, table, i, place(2, 2, d))
 }
 
 // ---- what a request names
 
-pub fn row_number(i: usize) -> i64 {
+pub(crate) fn row_number(i: usize) -> i64 {
     word_of(plus(i, 1))
 }
 
-pub fn shape_number(s: usize) -> i64 {
+pub(crate) fn shape_number(s: usize) -> i64 {
     word_of(plus(s, 1))
 }

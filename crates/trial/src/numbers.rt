@@ -4,24 +4,24 @@
 // ---- words
 
 // Word i, or 0 past the end.
-pub fn at(words: &[i64], i: usize) -> i64 {
+pub(crate) fn at(words: &[i64], i: usize) -> i64 {
     if i < words.len() { words[i] } else { 0 }
 }
 
-pub fn put(words: &mut [i64], i: usize, w: i64) {
+pub(crate) fn put(words: &mut [i64], i: usize, w: i64) {
     if i < words.len() {
         words[i] = w;
     }
 }
 
-pub fn copy(to: &mut [i64], from: &[i64]) {
+pub(crate) fn copy(to: &mut [i64], from: &[i64]) {
     let n = to.len();
     for i in 0..n {
         put(to, i, at(from, i));
     }
 }
 
-pub fn are_equal(a: &[i64], b: &[i64]) -> bool {
+pub(crate) fn are_equal(a: &[i64], b: &[i64]) -> bool {
     if a.len() != b.len() {
         return false;
     }
@@ -36,82 +36,82 @@ pub fn are_equal(a: &[i64], b: &[i64]) -> bool {
 
 // ---- numbers
 
-pub fn is_within(w: i64, low: i64, high: i64) -> bool {
+pub(crate) fn is_within(w: i64, low: i64, high: i64) -> bool {
     low <= w && w <= high
 }
 
-pub fn sum(a: i64, b: i64) -> i64 {
+pub(crate) fn sum(a: i64, b: i64) -> i64 {
     if -1000000000000 <= a && a <= 1000000000000 && -1000000000000 <= b && b <= 1000000000000 {
         return a + b;
     }
     0
 }
 
-pub fn difference(a: i64, b: i64) -> i64 {
+pub(crate) fn difference(a: i64, b: i64) -> i64 {
     if -1000000000000 <= a && a <= 1000000000000 && -1000000000000 <= b && b <= 1000000000000 {
         return a - b;
     }
     0
 }
 
-pub fn lesser(a: i64, b: i64) -> i64 {
+pub(crate) fn lesser(a: i64, b: i64) -> i64 {
     if a <= b { a } else { b }
 }
 
-pub fn greater(a: i64, b: i64) -> i64 {
+pub(crate) fn greater(a: i64, b: i64) -> i64 {
     if a <= b { b } else { a }
 }
 
 // A word as a number, and a number as a word.
-pub fn count_of(w: i64) -> usize {
+pub(crate) fn count_of(w: i64) -> usize {
     if 0 <= w && w <= 1000000000000 {
         return w as usize;
     }
     0
 }
 
-pub fn word_of(n: usize) -> i64 {
+pub(crate) fn word_of(n: usize) -> i64 {
     if n > 1000000000000 { 0 } else { n as i64 }
 }
 
-pub fn plus(a: usize, b: usize) -> usize {
+pub(crate) fn plus(a: usize, b: usize) -> usize {
     std::num::wrapping_add_usize(a, b)
 }
 
 // The number before, or 0.
-pub fn before(n: usize) -> usize {
+pub(crate) fn before(n: usize) -> usize {
     if n == 0 { 0 } else { n - 1 }
 }
 
 // first + count * size
-pub fn place(first: usize, count: usize, size: usize) -> usize {
+pub(crate) fn place(first: usize, count: usize, size: usize) -> usize {
     if first <= 1000000 && count <= 1000000 && size <= 1000000 {
         return first + count * size;
     }
     0
 }
 
-pub fn at_most(n: usize, most: usize) -> usize {
+pub(crate) fn at_most(n: usize, most: usize) -> usize {
     if n < most { n } else { most }
 }
 
-pub fn quotient(a: usize, b: usize) -> usize {
+pub(crate) fn quotient(a: usize, b: usize) -> usize {
     if b == 0 { 0 } else { a / b }
 }
 
-pub fn remainder(a: usize, b: usize) -> usize {
+pub(crate) fn remainder(a: usize, b: usize) -> usize {
     if b == 0 { 0 } else { a % b }
 }
 
 // ---- sets
 
 // Bit d of a set.
-pub fn has(set: i64, d: usize) -> bool {
+pub(crate) fn has(set: i64, d: usize) -> bool {
     remainder(quotient(count_of(set), power(d)), 2) == 1
 }
 
 // 2 ^ d, for d up to 32.
-pub fn power(d: usize) -> usize {
+pub(crate) fn power(d: usize) -> usize {
     if d > 32 {
         return 0;
     }
@@ -119,17 +119,17 @@ pub fn power(d: usize) -> usize {
 }
 
 // The set of d alone.
-pub fn set_of(d: usize) -> i64 {
+pub(crate) fn set_of(d: usize) -> i64 {
     word_of(power(d))
 }
 
 // ---- points
 
-pub fn coordinate(p: [i64; 4], d: usize) -> i64 {
+pub(crate) fn coordinate(p: [i64; 4], d: usize) -> i64 {
     if d < 4 { p[d] } else { 0 }
 }
 
-pub fn lesser_of(a: [i64; 4], b: [i64; 4]) -> [i64; 4] {
+pub(crate) fn lesser_of(a: [i64; 4], b: [i64; 4]) -> [i64; 4] {
     [
         lesser(a[0], b[0]),
         lesser(a[1], b[1]),
@@ -138,7 +138,7 @@ pub fn lesser_of(a: [i64; 4], b: [i64; 4]) -> [i64; 4] {
     ]
 }
 
-pub fn greater_of(a: [i64; 4], b: [i64; 4]) -> [i64; 4] {
+pub(crate) fn greater_of(a: [i64; 4], b: [i64; 4]) -> [i64; 4] {
     [
         greater(a[0], b[0]),
         greater(a[1], b[1]),
@@ -150,7 +150,7 @@ pub fn greater_of(a: [i64; 4], b: [i64; 4]) -> [i64; 4] {
 // ---- chance
 
 // A xorshift generator.
-pub fn next(seed: &mut usize) -> usize {
+pub(crate) fn next(seed: &mut usize) -> usize {
     let mut x = *seed;
     x = x ^ (x << 13);
     x = x ^ (x >> 7);
@@ -160,11 +160,11 @@ pub fn next(seed: &mut usize) -> usize {
 }
 
 // A number from 0 to n - 1.
-pub fn below(seed: &mut usize, n: usize) -> usize {
+pub(crate) fn below(seed: &mut usize, n: usize) -> usize {
     remainder(next(seed), n)
 }
 
 // One of the n words from `first` on.
-pub fn from(seed: &mut usize, first: i64, n: usize) -> i64 {
+pub(crate) fn from(seed: &mut usize, first: i64, n: usize) -> i64 {
     sum(first, word_of(below(seed, n)))
 }

@@ -142,7 +142,7 @@ fn head_refusal(block: &[i64]) -> i64 {
     0
 }
 
-pub fn refusal(block: &[i64], table: &[i64]) -> i64 {
+pub(crate) fn refusal(block: &[i64], table: &[i64]) -> i64 {
     let g = head_refusal(block);
     if g > 0 {
         return g;
@@ -165,7 +165,7 @@ pub fn refusal(block: &[i64], table: &[i64]) -> i64 {
 
 // ---- refusals 9 to 12
 
-pub fn row_refusal(block: &[i64], table: &[i64], row: i64) -> i64 {
+pub(crate) fn row_refusal(block: &[i64], table: &[i64], row: i64) -> i64 {
     let g = refusal(block, table);
     if g > 0 {
         return g;
@@ -175,11 +175,11 @@ pub fn row_refusal(block: &[i64], table: &[i64], row: i64) -> i64 {
 }
 
 // The row or shape of a number from 1.
-pub fn index(number: i64) -> usize {
+pub(crate) fn index(number: i64) -> usize {
     numbers::before(numbers::count_of(number))
 }
 
-pub fn shape_refusal(block: &[i64], table: &[i64], row: i64, shape: i64) -> i64 {
+pub(crate) fn shape_refusal(block: &[i64], table: &[i64], row: i64, shape: i64) -> i64 {
     let g = row_refusal(block, table, row);
     if g > 0 {
         return g;
@@ -192,7 +192,7 @@ pub fn shape_refusal(block: &[i64], table: &[i64], row: i64, shape: i64) -> i64 
     10
 }
 
-pub fn dim_refusal(block: &[i64], table: &[i64], row: i64, shape: i64, dim: i64) -> i64 {
+pub(crate) fn dim_refusal(block: &[i64], table: &[i64], row: i64, shape: i64, dim: i64) -> i64 {
     let g = shape_refusal(block, table, row, shape);
     if g > 0 {
         return g;
@@ -216,7 +216,7 @@ fn is_fixed(block: &[i64], table: &[i64]) -> bool {
     true
 }
 
-pub fn placement_refusal(block: &[i64], table: &[i64]) -> i64 {
+pub(crate) fn placement_refusal(block: &[i64], table: &[i64]) -> i64 {
     let g = refusal(block, table);
     if g > 0 {
         return g;

@@ -19,7 +19,7 @@ fn and(n: u64, more: bool) -> u64 {
 }
 
 impl Tally {
-    pub fn new() -> Self {
+    pub(crate) fn new() -> Self {
         Tally {
             run: 0,
             refused: 0,
@@ -35,19 +35,19 @@ impl Tally {
     }
 
     // One comparison.
-    pub fn compared(mut self, same: bool) -> Self {
+    pub(crate) fn compared(mut self, same: bool) -> Self {
         self.compared = and(self.compared, true);
         self.differ = and(self.differ, !same);
         self
     }
 
-    pub fn with_position(mut self, agrees: bool) -> Self {
+    pub(crate) fn with_position(mut self, agrees: bool) -> Self {
         self.run = and(self.run, true);
         self.differ = and(self.differ, !agrees);
         self
     }
 
-    pub fn with_sheet(mut self, refused: bool, large: bool) -> Self {
+    pub(crate) fn with_sheet(mut self, refused: bool, large: bool) -> Self {
         self.run = and(self.run, true);
         self.refused = and(self.refused, refused);
         self.large = and(self.large, large);
@@ -55,14 +55,14 @@ impl Tally {
     }
 
     // What settling found; `counted` where it was a sheet and not a placement.
-    pub fn with_settling(mut self, counted: bool, finding: i64, moved: bool) -> Self {
+    pub(crate) fn with_settling(mut self, counted: bool, finding: i64, moved: bool) -> Self {
         self.settled = and(self.settled, counted && finding == 0);
         self.moved = and(self.moved, counted && finding == 0 && moved);
         self.none = and(self.none, counted && finding == -1);
         self
     }
 
-    pub fn with_verdict(mut self, finding: i64) -> Self {
+    pub(crate) fn with_verdict(mut self, finding: i64) -> Self {
         self.good = and(self.good, finding == 0);
         self.bad = and(self.bad, finding == -1);
         self

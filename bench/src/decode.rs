@@ -1,4 +1,4 @@
-//! An accepted sheet, decoded once a settle: what both fast forms read. Boxes stand grouped by shape, with
+//! An accepted sheet, decoded once a settle: what every plain form reads. Boxes stand grouped by shape, with
 //! their starts and ends; every point has four coordinates, and the dimensions from k on hold 0 everywhere,
 //! where every interval holds 0, so loops over the four need no k.
 
@@ -10,7 +10,7 @@ pub type Point = [i64; MAX_DIMS];
 pub const FAR: i64 = 8_000_000;
 
 /// The points from `low` to `high`, both included.
-#[derive(Clone, Copy)]
+#[derive(Clone, Copy, PartialEq)]
 pub struct Area {
     pub low: Point,
     pub high: Point,
@@ -33,6 +33,12 @@ impl Area {
     #[inline(always)]
     pub fn holds_all(&self, other: &Area) -> bool {
         self.holds(&other.low) && self.holds(&other.high)
+    }
+
+    /// Whether some point is in both.
+    #[inline(always)]
+    pub fn meets(&self, other: &Area) -> bool {
+        (0..4).all(|d| self.low[d].max(other.low[d]) <= self.high[d].min(other.high[d]))
     }
 
     #[inline(always)]
@@ -107,7 +113,7 @@ pub struct Room {
     pub area: Area,
 }
 
-#[derive(Clone, Copy)]
+#[derive(Clone, Copy, PartialEq)]
 pub struct Row {
     pub set: u32,
     pub area: Area,
@@ -122,6 +128,13 @@ impl Row {
 
 pub type Rows = [Row; MAX_ROWS];
 
+/// Whether a rule is kept that an earlier one covers.
+#[derive(Clone, Copy, PartialEq)]
+pub enum Copies {
+    Kept,
+    Dropped,
+}
+
 /// The block of an accepted sheet; `first` says where in `boxes` those of a shape begin.
 pub struct Decoded {
     pub k: usize,
@@ -135,7 +148,7 @@ pub struct Decoded {
 
 impl Decoded {
     /// Of an accepted block.
-    pub fn new(block: &[i64], table_len: usize) -> Self {
+    pub fn new(block: &[i64], table_len: usize, copies: Copies) -> Self {
         let (k, b) = (block[0] as usize, block[1] as usize);
         let (box_words, rule_words) = block[3..].split_at(b * box_len(k));
         let mut first = [0u8; MAX_SHAPES + 1];
@@ -177,7 +190,7 @@ impl Decoded {
                 }
                 // An earlier rule over these rows and no more dimensions forbids all that this one does.
                 let covers = |a: &Apart| rows & !a.rows == 0 && a.dims & !dims == 0;
-                if cfg!(keep_copies) || !aparts.iter().any(covers) {
+                if copies == Copies::Kept || !aparts.iter().any(covers) {
                     aparts.push(Apart { rows, dims, slack });
                 }
             } else {

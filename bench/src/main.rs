@@ -1,17 +1,16 @@
-//! The benchmark: the proved kernel against plain Rust, settling in the direct form and in the list form. It checks
-//! on every sheet that all agree word for word and prints one table; times of one run are compared with one another
-//! alone. See ../run for how it is built and called.
+//! The benchmark: the proved kernel against plain Rust, settling in the direct form and in the list form, as document
+//! 000 has them and tuned. It checks on every sheet that all agree word for word and prints one table; times of one
+//! run are compared with one another alone. See ../run for how it is built and called.
 
 mod brute;
 mod decode;
-mod direct;
 mod generate;
 #[cfg(kernel)]
 mod kernel;
-mod list;
+mod plain;
 mod selftest;
-mod settle;
 mod sheet;
+mod tuned;
 
 use generate::{line_sheet, Line, STYLES};
 use sheet::Sheet;
@@ -21,23 +20,28 @@ use std::time::{Duration, Instant};
 
 type Settle = fn(&[i64], &mut [i64]) -> i64;
 
-/// What is compared; the last two are plain Rust.
-#[cfg(kernel)]
-const SUBJECTS: &[(&str, Settle)] = &[("kernel", kernel::settle), ("direct", direct::settle), ("list", list::settle)];
-#[cfg(not(kernel))]
-const SUBJECTS: &[(&str, Settle)] = &[("direct", direct::settle), ("list", list::settle)];
+/// What is compared: the kernel, and four forms of plain Rust.
+const SUBJECTS: &[(&str, Settle)] = &[
+    #[cfg(kernel)]
+    ("kernel", kernel::settle),
+    ("direct", plain::direct),
+    ("list", plain::list),
+    ("tuned-d", tuned::direct::settle),
+    ("tuned-l", tuned::list::settle),
+];
 
 /// How long is measured: batches for each subject in turn, each of at least this time. Many short batches find the
-/// machine's quiet moments better than few long ones.
+/// machine's quiet moments better than few long ones. A subject that has used up its time on a sheet rests.
 struct Effort {
     batches: usize,
     batch: Duration,
+    most: Duration,
 }
 
 fn main() -> ExitCode {
     let words: Vec<String> = std::env::args().skip(1).collect();
-    let full = Effort { batches: 40, batch: Duration::from_micros(500) };
-    let quick = Effort { batches: 5, batch: Duration::from_micros(200) };
+    let full = Effort { batches: 40, batch: Duration::from_micros(500), most: Duration::from_millis(200) };
+    let quick = Effort { batches: 5, batch: Duration::from_micros(200), most: Duration::from_millis(20) };
     match words.iter().map(String::as_str).collect::<Vec<_>>()[..] {
         [] => table(&full, ""),
         ["--quick"] => table(&quick, ""),
@@ -84,18 +88,20 @@ fn sheets(line: &Line) -> Vec<Sheet> {
     STYLES.iter().enumerate().map(|(i, &style)| line_sheet(line, style, (8 * seed + i) as u64)).collect()
 }
 
-/// What every subject finds for the sheet, with the number of narrowings, or who differs from the list form.
+/// What every subject finds for the sheet, with the number of narrowings, or who differs from the tuned list form.
 fn agreed(sheet: &Sheet) -> Result<(i64, usize), String> {
     let mut expected = sheet.table.clone();
-    let finding = list::settle(&sheet.block, &mut expected);
+    let finding = tuned::list::settle(&sheet.block, &mut expected);
     for (name, settle) in SUBJECTS {
         let mut table = sheet.table.clone();
         let found = settle(&sheet.block, &mut table);
         if (found, &table) != (finding, &expected) {
-            return Err(format!("{name} finds {found}, {table:?}\nlist finds {finding}, {expected:?}\nfor {sheet:?}"));
+            return Err(format!(
+                "{name} finds {found}, {table:?}\ntuned-l finds {finding}, {expected:?}\nfor {sheet:?}"
+            ));
         }
     }
-    Ok((finding, list::narrowings(&sheet.block, &sheet.table)))
+    Ok((finding, tuned::list::narrowings(&sheet.block, &sheet.table)))
 }
 
 /// Microseconds a settle, for each subject: the least of the batches, the subjects taking turns.
@@ -109,21 +115,27 @@ fn measure(sheet: &Sheet, effort: &Effort) -> Vec<f64> {
         }
         begin.elapsed()
     };
-    let times: Vec<u32> = SUBJECTS
+    let (times, mut used): (Vec<u32>, Vec<Duration>) = SUBJECTS
         .iter()
         .map(|(_, settle)| {
             let mut times = 1;
-            while run(*settle, times) < effort.batch {
+            loop {
+                let time = run(*settle, times);
+                if time >= effort.batch {
+                    return (times, time);
+                }
                 times *= 2;
             }
-            times
         })
-        .collect();
-    let mut least = vec![f64::MAX; SUBJECTS.len()];
+        .unzip();
+    let mut least: Vec<f64> = used.iter().zip(&times).map(|(time, &n)| time.as_secs_f64() * 1e6 / n as f64).collect();
     for _ in 0..effort.batches {
         for (s, (_, settle)) in SUBJECTS.iter().enumerate() {
-            let micros = run(*settle, times[s]).as_secs_f64() * 1e6 / times[s] as f64;
-            least[s] = least[s].min(micros);
+            if used[s] < effort.most {
+                let time = run(*settle, times[s]);
+                used[s] += time;
+                least[s] = least[s].min(time.as_secs_f64() * 1e6 / times[s] as f64);
+            }
         }
     }
     least
@@ -137,10 +149,14 @@ struct Ratio {
 }
 
 #[cfg(kernel)]
-const RATIOS: &[Ratio] =
-    &[Ratio { name: "kernel/direct", over: 0, under: 1 }, Ratio { name: "kernel/list", over: 0, under: 2 }];
+const RATIOS: &[Ratio] = &[
+    Ratio { name: "kernel/direct", over: 0, under: 1 },
+    Ratio { name: "kernel/list", over: 0, under: 2 },
+    Ratio { name: "kernel/tuned-l", over: 0, under: 4 },
+];
 #[cfg(not(kernel))]
-const RATIOS: &[Ratio] = &[Ratio { name: "direct/list", over: 0, under: 1 }];
+const RATIOS: &[Ratio] =
+    &[Ratio { name: "direct/tuned-d", over: 0, under: 2 }, Ratio { name: "list/tuned-l", over: 1, under: 3 }];
 
 /// A measured line: mean microseconds a settle of each subject, and those of each sheet.
 struct Measured {

@@ -76,8 +76,12 @@ fn shapes_boxed(block: &[i64], table: &[i64], i: Place, flags: [bool; 33]) -> bo
         × Count (shapeSet (lentOf (now block)) (now table) (i .number)) × Flags (lentOf (now block)) flags ⌝ }
     ensures { λ r. ⌜ r ≡ allUpTo 32 (shapeBoxed (lentOf (now (block .entry))) (now (table .entry)) (i .number)) ⌝ }
 {
+    let set = words::shapes_of(block, table, i);
     let mut s = 0;
     while s < 32 {
+        if words::is_below(set, s) {
+            return true;
+        }
         if !shape_boxed(block, table, i, flags, s + 1) {
             return false;
         }

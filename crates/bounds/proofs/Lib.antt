@@ -1,3 +1,4 @@
+pub mod Sights
 pub mod Swept
 pub mod Cutting
 pub mod Calls

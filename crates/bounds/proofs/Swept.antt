@@ -4,7 +4,6 @@
 use mathlib.Core.Path.{_≡_, refl, sym, ap, _∙_, subst}
 use mathlib.Core.Bool.{Bool, true, false, not}
 use mathlib.Core.List.{List}
-use mathlib.Core.Option.{none, some}
 use Prim.Native.Nat.{ℕ, _≤_, _<_}
 use lib.ListN.{length}
 use lib.IntN.{ℤ}
@@ -13,18 +12,16 @@ use Rattle.integers.specs.Words.{word}
 use Rattle.integers.proofs.Booleans.{clash, and-true, true-and, not-true}
 use Rattle.sheet.specs.Layout.{Lent, axes}
 use Rattle.sheet.specs.Allowed.{forbidden}
-use Rattle.sheet.specs.Bounds.{Extreme, nowhere, there}
 use Rattle.region.specs.declared.Area.{Area}
 use Rattle.region.specs.Area.{inArea}
 use Rattle.region.proofs.Areas.{area-at, area-by}
-use Rattle.sweep.specs.declared.Sweep.{Sweep}
 use Rattle.sweep.specs.Point.{InBox, Near, turn, turned, turnedEnd}
 use Rattle.sweep.specs.Rotation.{rotation}
-use Rattle.sweep.specs.Moves.{begun, jumpedPast, advance}
+use Rattle.sweep.specs.Moves.{Sweep, begun, jumpedPast, advance}
 use Rattle.sweep.specs.Theorem.{Step, Reached, start, onward, pointsAfter, SweepTheorem}
 use Rattle.sweep.proofs.Interface.{rotation-range, rotation-first, sweep-theorem, least-turned, candidate-near}
 use Rattle.sweep.proofs.Mirror.{TurnedBox, box-in, box-out, box-filled, turned-turned, reverses-turn}
-use Rattle.bounds.specs.Search.{Ahead, freeIn}
+use Rattle.bounds.specs.Search.{Ahead, freeIn, Sighted}
 
 -- ---- areas as boxes
 area-box : {k : ℕ} {a : Area} (p : List ℤ) → inArea k a p ≡ true → InBox k (a .low) (a .high) p
@@ -80,12 +77,17 @@ module _ (lent : Lent) (t : List ℤ) (i s d : ℕ) (few : axes lent ≤ 4) (hd 
       pub swept-in : w .live ≡ true → inArea (axes lent) a p ≡ true
       swept-in l = subst (λ (q : List ℤ). inArea (axes lent) a q ≡ true) (sym point) (box-area _ (box-out box (theorem .inside r l)))
 
-      pub swept-found : w .live ≡ true → forbidden lent t i s p ≡ false → Extreme (Ahead flip) (freeIn lent t i s a) d (some (word p d))
+      pub swept-found : w .live ≡ true → forbidden lent t i s p ≡ false → Sighted flip lent t i s a d (record { found = true; point = p })
       swept-found l e =
-          there p (free-by p (swept-in l) e) refl (λ q f.
-          let g = free-parts q f in
-          turn-ahead flip (word p d) (word q d)
-          (least-turned theorem r l (rotation-first few hd) flip point q (in-range q (g .0)) (not-bad q (g .1))))
+          record {
+            free = λ _. free-by p (swept-in l) e;
+            first =
+                λ _ q f.
+                let g = free-parts q f in
+                turn-ahead flip (word p d) (word q d)
+                (least-turned theorem r l (rotation-first few hd) flip point q (in-range q (g .0)) (not-bad q (g .1)));
+            none = λ u. absurd (clash refl u);
+          }
 
       -- an area around p, all of whose points are forbidden, that ends at last when it is turned
       module _ (live : w .live ≡ true) (x : Area) {last : List ℤ} (ends : last ≡ turnedEnd flip (x .low) (x .high))
@@ -115,8 +117,13 @@ module _ (lent : Lent) (t : List ℤ) (i s d : ℕ) (few : axes lent ≤ 4) (hd 
             < pointsAfter (rotation (axes lent) d) first end (axes lent) (w .candidate)
         swept-falls l = theorem .falls r step l
 
-    pub swept-none : w .live ≡ false → Extreme (Ahead flip) (freeIn lent t i s a) d none
-    swept-none l =
-        nowhere (λ p e.
-        let g = free-parts p e in
-        not-bad p (g .1) (theorem .exhausted r l (turned flip p) (in-range p (g .0))))
+    pub swept-none : w .live ≡ false → (q : List ℤ) → Sighted flip lent t i s a d (record { found = false; point = q })
+    swept-none l q =
+        record {
+          free = λ u. absurd (clash u refl);
+          first = λ u. absurd (clash u refl);
+          none =
+              λ _ p e.
+              let g = free-parts p e in
+              not-bad p (g .1) (theorem .exhausted r l (turned flip p) (in-range p (g .0)));
+        }

@@ -7,19 +7,20 @@ ghost use Prim.Native.Nat.{ℕ, _<_, _≤_};
 ghost use lib.IntN.{ℤ, pos};
 ghost use Rattle.integers.specs.Integer.{nat};
 ghost use Rattle.sheet.specs.Layout.{lentOf, axes};
-ghost use Rattle.sheet.specs.Bounds.{Extreme, leastOf, greatestOf};
+ghost use Rattle.sheet.specs.Bounds.{leastOf, greatestOf};
 ghost use Rattle.sheet.specs.Refusal.{refusalDim};
 ghost use Rattle.sheet.specs.Answer.{boundAnswer};
 ghost use Rattle.sheet.specs.Accepted.{Block, Table};
 ghost use Rattle.words.specs.Places.{RowPlace};
 ghost use Rattle.region.specs.Area.{inArea, Small};
 ghost use Rattle.nearby.specs.Listing.{Ready, Listed};
-ghost use Rattle.bounds.specs.Search.{Ahead, freeIn, coordinate, extremeOf};
+ghost use Rattle.bounds.specs.Search.{Sighted, coordinate, extremeOf};
 use nearby::LIST;
 use nearby::Nearby;
 use region::Area;
+use region::COORDINATES;
 use sheet::Bound;
-use sweep::Sweep;
+use sweep::STATE;
 use words::Place;
 
 // A coordinate that was found, or none.
@@ -28,8 +29,14 @@ pub enum Found {
     Nothing,
 }
 
-// The least coordinate in dimension d, or where flip is set the greatest, of the area's points that no rule forbids to row i with
-// shape s. The list is that of the area. The sweep's candidate is a point, or its mirror image.
+// What a search came to: a free point, where one was found.
+pub struct Spot {
+    pub found: bool,
+    pub point: [i64; COORDINATES],
+}
+
+// A point with the least coordinate in dimension d, or where flip is set the greatest, of the area's points that no rule forbids to row i
+// with shape s. The list is that of the area. The sweep's candidate is a point, or its mirror image.
 pub fn search(
     block: &[i64],
     table: &[i64],
@@ -40,40 +47,44 @@ pub fn search(
     d: usize,
     flip: bool,
     area: Area,
-) -> Found
+) -> Spot
     requires { ⌜ Block (lentOf (now block)) × Table (lentOf (now block)) (now table) × RowPlace (lentOf (now block)) (now table) i
         × (d < axes (lentOf (now block))) × Small area × (inArea (axes (lentOf (now block))) area (area .low) ≡ true)
         × Ready (lentOf (now block)) (now list) × Listed (lentOf (now block)) (now table) (i .number) s area (now list) nearby ⌝ }
-    ensures { λ r. ⌜ Extreme (Ahead flip) (freeIn (lentOf (now (block .entry))) (now (table .entry)) (i .number) s area) d (coordinate r) ⌝ }
+    ensures { λ x. ⌜ Sighted flip (lentOf (now (block .entry))) (now (table .entry)) (i .number) s area d x ⌝ }
 {
     let k = words::axes_of(block);
     let low = area.low;
     let high = area.high;
     let first = sweep::turned_end(high, low, flip);
     let end = sweep::turned_end(low, high, flip);
-    let mut w = Sweep::new(first, end);
+    let mut state = [0i64; STATE];
+    sweep::begin(&mut state, first, end);
     loop {
-        let candidate = w.candidate;
-        let p = sweep::turned_point(candidate, flip);
+        let p = sweep::turned_point(sweep::candidate(&state), flip);
         let x = nearby::region_at(block, table, list, nearby, i, s, p);
         let hit = x.hit;
         if !hit {
-            return Found::At(p[d]);
+            return Spot {
+                found: true,
+                point: p,
+            };
         }
         let bad = x.area;
         let from = bad.low;
         let to = bad.high;
         let last = sweep::turned_end(from, to, flip);
-        w = w.jumped(last);
-        w = w.advanced(k, d, first, end);
-        let live = w.live;
-        if !live {
-            return Found::Nothing;
+        sweep::jump_past(&mut state, last);
+        if !sweep::advance(&mut state, k, d, first, end) {
+            return Spot {
+                found: false,
+                point: p,
+            };
         }
     }
 }
 
-// The same of the points at which the row is allowed.
+// The coordinate of such a point among those at which the row is allowed.
 pub fn extreme(
     block: &[i64],
     table: &[i64],
@@ -94,7 +105,13 @@ pub fn extreme(
         return Found::Nothing;
     }
     let nearby = nearby::gather(block, table, list, i, s, cut);
-    search(block, table, list, nearby, i, s, d, flip, cut)
+    let x = search(block, table, list, nearby, i, s, d, flip, cut);
+    let found = x.found;
+    if found {
+        let point = x.point;
+        return Found::At(point[d]);
+    }
+    Found::Nothing
 }
 
 fn bound(block: &[i64], table: &[i64], row: i64, shape: i64, dimension: i64, flip: bool) -> Bound

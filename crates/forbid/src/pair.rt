@@ -2,7 +2,6 @@
 ghost use mathlib.Core.Path.{_≡_};
 ghost use Prim.Native.Nat.{_<_};
 ghost use Rattle.integers.specs.Integer.{Within};
-ghost use Rattle.integers.specs.Words.{word};
 ghost use Rattle.sheet.specs.Layout.{lentOf, dims, axes};
 ghost use Rattle.sheet.specs.Accepted.{Block};
 ghost use Rattle.words.specs.Places.{BoxPlace};
@@ -10,6 +9,7 @@ ghost use Rattle.region.specs.Area.{reach, Cuts, fieldArea};
 ghost use Rattle.forbid.specs.Pair.{fromMax, toMin, PairPlaces, IsInterval, sideForbids, forbiddenBy};
 use region::Area;
 use region::COORDINATES;
+use region::REACH;
 use words::Place;
 
 // Rule r, box b of row i and box c of row j: what c forbids to i by b.
@@ -92,20 +92,6 @@ pub fn pair_forbids(block: &[i64], table: &[i64], pair: Pair, p: [i64; COORDINAT
     true
 }
 
-// Cut to the points that the pair forbids in dimension d, if the rule names d.
-fn cut_by_side(area: Area, block: &[i64], table: &[i64], pair: Pair, d: usize) -> Area
-    requires { ⌜ PairPlaces (lentOf (now block)) (now table) pair × (d < dims (lentOf (now block))) ⌝ }
-    ensures { λ x. ⌜ Cuts (axes (lentOf (now (block .entry)))) area x
-        (λ p. sideForbids (lentOf (now (block .entry))) (now (table .entry)) pair d (word p d)) ⌝ }
-{
-    let r = pair.r;
-    if !words::names_dim(block, r, d) {
-        return area;
-    }
-    let interval = interval_of(block, table, pair, d);
-    area.within(d, interval.from, interval.to)
-}
-
 // The points that the pair forbids: its intervals in the named dimensions, the whole field in the others.
 pub fn pair_area(block: &[i64], table: &[i64], pair: Pair) -> Area
     requires { ⌜ PairPlaces (lentOf (now block)) (now table) pair ⌝ }
@@ -113,11 +99,19 @@ pub fn pair_area(block: &[i64], table: &[i64], pair: Pair) -> Area
         (forbiddenBy (lentOf (now (block .entry))) (now (table .entry)) pair) ⌝ }
 {
     let k = words::dims_of(block);
-    let mut area = Area::field();
+    let r = pair.r;
+    let mut low = [-REACH; COORDINATES];
+    let mut high = [REACH; COORDINATES];
     let mut d = 0;
     while d < k {
-        area = cut_by_side(area, block, table, pair, d);
+        if words::names_dim(block, r, d) {
+            let interval = interval_of(block, table, pair, d);
+            let from = interval.from;
+            let to = interval.to;
+            low[d] = from;
+            high[d] = to;
+        }
         d += 1;
     }
-    area
+    Area { low, high }
 }

@@ -10,14 +10,14 @@ use native.Mathlib.Omega.{arith}
 use lib.IntN.{ℤ, pos}
 use Rattle.integers.specs.Below.{valueOr}
 use Rattle.integers.specs.Bits.{setOf}
-use Rattle.integers.specs.Words.{word, pairsBelow, replaced}
+use Rattle.integers.specs.Words.{pairsBelow, replaced}
 use Rattle.integers.proofs.Booleans.{and-true, true-and}
 use Rattle.integers.proofs.Sets.{living-set, setOf-holds, holds-setOf, set-ge-1, small-set, member-ge-1}
 use Rattle.integers.proofs.Ints.{ints}
 use Rattle.sheet.specs.Layout.{Lent, axes, rowAt, rows, shapeSet, low, high, hasShape}
 use Rattle.sheet.specs.Allowed.{inRanges, allowed}
 use Rattle.sheet.specs.Bounds.{there, leastBy, greatestBy}
-use Rattle.sheet.specs.Narrow.{Stands, Reached, noPlace, rowAllowed, keepsShape, narrowLow, narrowHigh, narrowRow, narrowOf}
+use Rattle.sheet.specs.Narrow.{Stands, noPlace, rowAllowed, keepsShape, narrowLow, narrowHigh, narrowRow, narrowOf}
 use Rattle.sheet.specs.Accepted.{Table}
 use Rattle.sheet.proofs.Forbidden.{allowed-parts}
 use Rattle.sheet.proofs.Coordinates.{allowed-agree, row-allowed-agree}
@@ -25,7 +25,8 @@ use Rattle.sheet.proofs.Points.{found, met}
 use Rattle.sheet.proofs.Extremes.{least-by, greatest-by, least-unique, greatest-unique}
 use Rattle.sheet.proofs.Narrows.{row-allowed-by, row-allowed-parts}
 use Rattle.sheet.proofs.NarrowsOnce.{narrow-is}
-use Rattle.narrow.specs.Ends.{StandsTo, End}
+use Rattle.narrow.specs.Ends.{endAt, StandsTo, Edge, End}
+use Rattle.narrow.specs.Hulls.{HullTo}
 
 module _ (lent : Lent) (t : List ℤ) (table : Table lent t) (i : ℕ) (from : 1 ≤ i) (upto : i ≤ rows lent t) where
   -- a point of the row is one of its shapes up to 32
@@ -42,29 +43,31 @@ module _ (lent : Lent) (t : List ℤ) (table : Table lent t) (i : ℕ) (from : 1
   abbrev row-test : List ℤ → Bool
   row-test = rowAllowed lent t i
 
-  reached-end : {flip : Bool} {d : ℕ} {z : ℤ} → End lent t i flip 32 d z → (p : List ℤ) → Stands lent t i p → Reached lent t i d z
-  reached-end x p st = ⊎-elim (λ r. r) (λ u. absurd (u .1 p (to-32 p st))) (x .reached)
+  reached-end : {flip : Bool} {d : ℕ} {z : ℤ} → End lent t i flip 32 d z → (p : List ℤ) → Stands lent t i p → Edge lent t i flip 32 d z
+  reached-end x p st = ⊎-elim (λ e. e) (λ u. absurd (u .1 p (to-32 p st))) x
 
   module _ (p : List ℤ) (st : Stands lent t i p) (d : ℕ) (hd : d < axes lent) (z : ℤ) where
     low-is : End lent t i false 32 d z → narrowLow lent t i d ≡ z
     unfolding narrowLow valueOr
     low-is x =
-        let r = reached-end x p st in
+        let e = reached-end x p st in
+        let r = e .reached in
         ap (valueOr (low lent t i d))
         (least-unique (leastBy lent t i row-test d) (some z)
         (least-by lent t i row-test (λ p q h. row-allowed-agree lent t p q h i) ranged d hd)
         (there (r .point) (row-allowed-by lent t table i from upto (r .point) (r .by)) (r .there)
-        (λ q e. x .ahead q (to-32 q (row-allowed-parts lent t table i from upto q e)))))
+        (λ q a. e .ahead q (to-32 q (row-allowed-parts lent t table i from upto q a)))))
 
     high-is : End lent t i true 32 d z → narrowHigh lent t i d ≡ z
     unfolding narrowHigh valueOr
     high-is x =
-        let r = reached-end x p st in
+        let e = reached-end x p st in
+        let r = e .reached in
         ap (valueOr (high lent t i d))
         (greatest-unique (greatestBy lent t i row-test d) (some z)
         (greatest-by lent t i row-test (λ p q h. row-allowed-agree lent t p q h i) ranged d hd)
         (there (r .point) (row-allowed-by lent t table i from upto (r .point) (r .by)) (r .there)
-        (λ q e. x .ahead q (to-32 q (row-allowed-parts lent t table i from upto q e)))))
+        (λ q a. e .ahead q (to-32 q (row-allowed-parts lent t table i from upto q a)))))
 
   -- ---- the set
   kept-stands : (s : ℕ) → keepsShape lent t i s ≡ true → (p : List ℤ) × Stands lent t i p
@@ -102,23 +105,21 @@ module _ (lent : Lent) (t : List ℤ) (table : Table lent t) (i : ℕ) (from : 1
       ap₂ (λ (xs ys : List ℤ). xs ++ ys) (pairs-same n f g f' g' (λ d l. h d (omega arith)))
       (ap₂ (λ (x y : ℤ). x ∷ y ∷ []) (h n (omega arith) .0) (h n (omega arith) .1))
 
-  module _ (set : ℕ) (lows highs : List ℤ) (is : set ≡ setOf 32 (keepsShape lent t i)) (left : 1 ≤ set)
-      (low-ends : (d : ℕ) → d < axes lent → End lent t i false 32 d (word lows d))
-      (high-ends : (d : ℕ) → d < axes lent → End lent t i true 32 d (word highs d)) where
+  module _ (set : ℕ) (ends : List ℤ) (left : 1 ≤ set) (x : HullTo lent t i 32 set ends) where
     abbrev row-words : List ℤ
-    row-words = pos set ∷ pairsBelow (axes lent) (λ d. word lows d) (λ d. word highs d)
+    row-words = pos set ∷ pairsBelow (axes lent) (λ d. endAt false d ends) (λ d. endAt true d ends)
 
     words-are : (p : List ℤ) → Stands lent t i p → narrowRow lent t i ≡ row-words
     unfolding narrowRow
     words-are p st =
-        ap₂ (λ (n : ℕ) (xs : List ℤ). pos n ∷ xs) (sym is)
-        (pairs-same (axes lent) (narrowLow lent t i) (narrowHigh lent t i) (λ d. word lows d) (λ d. word highs d)
-        (λ d l. (low-is p st d l (word lows d) (low-ends d l), high-is p st d l (word highs d) (high-ends d l))))
+        ap₂ (λ (n : ℕ) (xs : List ℤ). pos n ∷ xs) (sym (x .kept))
+        (pairs-same (axes lent) (narrowLow lent t i) (narrowHigh lent t i) (λ d. endAt false d ends) (λ d. endAt true d ends)
+        (λ d l. (low-is p st d l (endAt false d ends) (x .reach false d l), high-is p st d l (endAt true d ends) (x .reach true d l))))
 
     pub narrow-some : narrowOf lent t i ≡ some (replaced t (rowAt lent i) row-words)
     unfolding narrowOf
     narrow-some =
-        let q = some-place (subst (λ (n : ℕ). 1 ≤ n) is left) in
+        let q = some-place (subst (λ (n : ℕ). 1 ≤ n) (x .kept) left) in
         let e = met lent t i row-test (λ p q h. row-allowed-agree lent t p q h i) (q .0)
         (ranged (q .0) (row-allowed-by lent t table i from upto (q .0) (q .1))) (row-allowed-by lent t table i from upto (q .0) (q .1)) in
         ap (λ (b : Bool). cond b (some (replaced t (rowAt lent i) (narrowRow lent t i))) none) e

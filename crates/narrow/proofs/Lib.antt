@@ -1,5 +1,6 @@
 pub mod Shapes
 pub mod Complete
+pub mod Taking
 pub mod Widens
 pub mod Hulls
 pub mod Writes

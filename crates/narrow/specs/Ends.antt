@@ -4,14 +4,22 @@ use mathlib.Core.Path.{_≡_}
 use mathlib.Core.Logic.{_⊎_}
 use mathlib.Core.Bool.{Bool, true, false, cond}
 use mathlib.Core.List.{List}
-use Prim.Native.Nat.{ℕ, suc, _≤_, _<_}
+use Prim.Native.Nat.{ℕ, _+_, _≤_, _<_}
 use lib.IntN.{ℤ, pos, _+ℤ_, _-ℤ_}
-use Rattle.integers.specs.Integer.{minus, Within}
+use lib.Signed.{leZ}
+use Rattle.integers.specs.Integer.{minus}
 use Rattle.integers.specs.Words.{word}
 use Rattle.sheet.specs.Layout.{Lent, axes, hasShape}
 use Rattle.sheet.specs.Allowed.{allowed}
 use Rattle.sheet.specs.Narrow.{Reached}
+use Rattle.region.specs.declared.Area.{Area}
+use Rattle.region.specs.Area.{coordinates, maxZ, minZ}
 use Rattle.bounds.specs.Search.{Ahead}
+
+-- an end in a run of eight: the low one, or where flip is set the high one
+abbrev pub endAt : Bool → ℕ → List ℤ → ℤ
+endAt true d ends = word ends (coordinates + d)
+endAt false d ends = word ends d
 
 -- an end that no point has reached: past every point of an accepted sheet, on the side from which the search comes
 abbrev pub nowhere : Bool → ℤ
@@ -26,6 +34,21 @@ abbrev pub past-to : Bool → ℤ → ℤ
 past-to true z = pos 2000000
 past-to false z = z -ℤ pos 1
 
+-- no point of the area lies there in dimension d
+abbrev pub none-past : Bool → Area → ℕ → ℤ → Bool
+none-past true a d z = leZ (word (a .high) d) z
+none-past false a d z = leZ z (word (a .low) d)
+
+-- the end z taken out to y
+abbrev pub farther : Bool → ℤ → ℤ → ℤ
+farther true z y = maxZ z y
+farther false z y = minZ z y
+
+-- the ends in the dimensions below m are taken out to point p, the others not yet
+pub record Taken (m : ℕ) (old p new : List ℤ) : Type 0 where
+  pub moved : (flip : Bool) (d : ℕ) → d < m → endAt flip d new ≡ farther flip (endAt flip d old) (word p d)
+  pub kept : (flip : Bool) (d : ℕ) → m ≤ d → d < coordinates → endAt flip d new ≡ endAt flip d old
+
 module _ (lent : Lent) (t : List ℤ) (i : ℕ) where
   -- row i with one of the shapes 1 to n of its set is allowed at p
   pub record StandsTo (n : ℕ) (p : List ℤ) : Type 0 where
@@ -34,13 +57,23 @@ module _ (lent : Lent) (t : List ℤ) (i : ℕ) where
     pub held : hasShape lent t i shape ≡ true
     pub stands : allowed lent t i shape p ≡ true
 
-  -- z is the least coordinate in dimension d of these points, or where flip is set the greatest; `nowhere` while there is none
-  pub record End (flip : Bool) (n d : ℕ) (z : ℤ) : Type 0 where
+  -- some point of the row reaches z in dimension d, and none of these lies ahead of it: below it, or where flip is set above it
+  pub record Edge (flip : Bool) (n d : ℕ) (z : ℤ) : Type 0 where
     pub ahead : (p : List ℤ) → StandsTo n p → Ahead flip z (word p d)
-    pub reached : Reached lent t i d z ⊎ ((z ≡ nowhere flip) × ((p : List ℤ) → StandsTo n p → ⊥))
-    pub near : Within 1500000 z
+    pub reached : Reached lent t i d z
 
-  -- so in every dimension, where the dimensions below m have taken in shape n and the others not yet
-  pub record Ends (flip : Bool) (m n : ℕ) (ends : List ℤ) : Type 0 where
-    pub new : (d : ℕ) → d < axes lent → d < m → End flip n d (word ends d)
-    pub old : (d : ℕ) → d < axes lent → m ≤ d → (k : ℕ) → n ≡ suc k → End flip k d (word ends d)
+  -- so where there is such a point; `nowhere` while there is none
+  abbrev pub End : Bool → ℕ → ℕ → ℤ → Type 0
+  End flip n d z = Edge flip n d z ⊎ ((z ≡ nowhere flip) × ((p : List ℤ) → StandsTo n p → ⊥))
+
+  -- so for the ends in the dimensions below m
+  abbrev pub Edges : ℕ → ℕ → List ℤ → Type 0
+  Edges n m ends = (flip : Bool) (d : ℕ) → d < m → Edge flip n d (endAt flip d ends)
+
+  -- and in every dimension
+  abbrev pub Ends : ℕ → List ℤ → Type 0
+  Ends n ends = (flip : Bool) (d : ℕ) → d < axes lent → End flip n d (endAt flip d ends)
+
+  -- what holds of the old ends holds of the new
+  abbrev pub Kept : List ℤ → List ℤ → Type 0
+  Kept old new = (n : ℕ) (flip : Bool) (d : ℕ) → d < axes lent → Edge flip n d (endAt flip d old) → Edge flip n d (endAt flip d new)

@@ -4,7 +4,7 @@ mod ends;
 mod hull;
 
 ghost use mathlib.Core.Path.{_≡_};
-ghost use mathlib.Core.Bool.{Bool, not, _||_};
+ghost use mathlib.Core.Bool.{Bool, true, false, not, _||_};
 ghost use mathlib.Core.List.{List, _∷_};
 ghost use Prim.Native.Nat.{ℕ, _<_, _≤_};
 ghost use lib.ListN.{length, set};
@@ -19,11 +19,15 @@ ghost use Rattle.sheet.specs.Answer.{narrowAnswer, tableAfter};
 ghost use Rattle.sheet.specs.Accepted.{Head, Rows, Block, Table};
 ghost use Rattle.words.specs.Places.{RowPlace};
 ghost use Rattle.nearby.specs.Listing.{Ready};
+ghost use Rattle.narrow.specs.Ends.{endAt};
 ghost use Rattle.narrow.specs.Steps.{stepAnswer};
 use nearby::LIST;
 use region::COORDINATES;
 use sheet::Narrowing;
 use words::Place;
+
+// An end that no point has reached: past every point of an accepted sheet.
+const NOWHERE: i64 = 1500000;
 
 // What narrowing a row of an accepted sheet came to: no place is left, every word stayed, or some word changed.
 pub enum Step {
@@ -46,17 +50,12 @@ fn put(table: &mut [i64], at: usize, w: i64, moved: bool) -> bool
 }
 
 // Writes row i's words. Whether one of them changed.
-fn write_row(
-    block: &[i64],
-    table: &mut [i64],
-    i: Place,
-    shapes: u32,
-    low: [i64; COORDINATES],
-    high: [i64; COORDINATES],
-) -> bool
-    requires { ⌜ Head (lentOf (now block)) × Rows (lentOf (now block)) (now table) × RowPlace (lentOf (now block)) (now table) i ⌝ }
+fn write_row(block: &[i64], table: &mut [i64], i: Place, shapes: u32, ends: &[i64]) -> bool
+    requires { ⌜ Head (lentOf (now block)) × Rows (lentOf (now block)) (now table) × RowPlace (lentOf (now block)) (now table) i
+        × (length (now ends) ≡ 8) ⌝ }
     ensures { λ r. ⌜ (now (table .exit) ≡ replaced (now (table .entry)) (rowAt (lentOf (now (block .entry))) (i .number))
-        (pos shapes ∷ pairsBelow (axes (lentOf (now (block .entry)))) (word low) (word high)))
+        (pos shapes ∷ pairsBelow (axes (lentOf (now (block .entry)))) (λ d. endAt false d (now (ends .entry)))
+        (λ d. endAt true d (now (ends .entry)))))
         × (r ≡ not (sameWords (now (table .exit)) (now (table .entry)))) ⌝ }
 {
     let k = words::axes_of(block);
@@ -64,8 +63,8 @@ fn write_row(
     let mut moved = false;
     let mut d = 0;
     while d < k {
-        moved = put(table, at + 1 + 2 * d, low[d], moved);
-        moved = put(table, at + 2 + 2 * d, high[d], moved);
+        moved = put(table, at + 1 + 2 * d, ends[d], moved);
+        moved = put(table, at + 2 + 2 * d, ends[COORDINATES + d], moved);
         d += 1;
     }
     put(table, at, shapes as i64, moved)
@@ -79,14 +78,21 @@ pub fn narrow_row(block: &[i64], table: &mut [i64], list: &mut [i64], i: Place) 
         × (now (table .exit) ≡ valueOr (now (table .entry)) (narrowOf (lentOf (now (block .entry))) (now (table .entry)) (i .number)))
         × Ready (lentOf (now (block .entry))) (now (list .exit)) ⌝ }
 {
-    let hull = hull::row_hull(block, table, list, i);
-    let shapes = hull.shapes;
+    let mut ends = [
+        NOWHERE,
+        NOWHERE,
+        NOWHERE,
+        NOWHERE,
+        -NOWHERE,
+        -NOWHERE,
+        -NOWHERE,
+        -NOWHERE,
+    ];
+    let shapes = hull::row_hull(block, table, list, &mut ends, i);
     if shapes == 0 {
         return Step::NoPlace;
     }
-    let low = hull.low;
-    let high = hull.high;
-    if write_row(block, table, i, shapes, low, high) {
+    if write_row(block, table, i, shapes, &ends) {
         return Step::Moved;
     }
     Step::Still

@@ -1,15 +1,16 @@
 -- Four words of a list are told word by word (`four-word`, `four-is`), and so is the hull of a shape in its head (`hull-start`, `hull-end`);
 -- it hangs on its own words alone (`hull-kept`). Assumes nothing.
 use mathlib.Core.Path.{_≡_, refl, sym, ap, ap₂, _∙_}
+use mathlib.Core.Logic.{⊎-elim}
 use mathlib.Core.List.{List}
 use Prim.Native.Nat.{ℕ, zero, suc, _+_, _*_, _≤_, _<_}
 use native.Mathlib.Omega.{arith}
 use lib.IntN.{ℤ, pos}
-use lib.ListN.{length}
+use lib.ListN.{length, List·getD-eq-default}
 use lib.Seq.{ext-getD}
 use Rattle.integers.specs.Words.{word}
-use Rattle.nearby.specs.declared.hull.Hull.{Hull}
-use Rattle.nearby.specs.Hull.{startsAt, endsAt, fourAt, hullAt}
+use Rattle.integers.proofs.Below.{below-or}
+use Rattle.nearby.specs.Hull.{Hull, startsAt, endsAt, fourAt, hullAt}
 
 module _ (l : List ℤ) (at : ℕ) where
   four-long : length (fourAt l at) ≡ 4
@@ -24,6 +25,10 @@ module _ (l : List ℤ) (at : ℕ) where
   four-word (suc (suc (suc zero))) h = refl
   four-word (suc (suc (suc (suc d)))) h = absurd (omega arith)
 
+  -- past them stand zeros
+  pub four-past : (d : ℕ) → 4 ≤ d → word (fourAt l at) d ≡ pos 0
+  four-past d h = List·getD-eq-default (fourAt l at) (pos 0) (omega (arith, four-long))
+
   pub four-is : (w : List ℤ) → length w ≡ 4 → ((d : ℕ) → d < 4 → word l (at + d) ≡ word w d) → fourAt l at ≡ w
   four-is w n h =
       ext-getD (pos 0) (fourAt l at) w (four-long ∙ sym n)
@@ -33,7 +38,12 @@ pub four-kept : (l l' : List ℤ) (at : ℕ) → ((x : ℕ) → at ≤ x → x <
 four-kept l l' at same =
     four-is l' at (fourAt l at) (four-long l at) (λ d h. same (at + d) (omega arith) (omega arith) ∙ sym (four-word l at d h))
 
-abbrev pub hullBy : List ℤ → List ℤ → Hull
+-- one of them
+pub four-rest : (l l' : List ℤ) (at d : ℕ) → (d < 4 → word l' (at + d) ≡ word l (at + d)) → word (fourAt l' at) d ≡ word (fourAt l at) d
+four-rest l l' at d same =
+    ⊎-elim (λ k. four-word l' at d k ∙ same k ∙ sym (four-word l at d k)) (λ k. four-past l' at d k ∙ sym (four-past l at d k)) (below-or d 4)
+
+abbrev hullBy : List ℤ → List ℤ → Hull
 hullBy a b = record { start = a; end = b }
 
 pub hull-kept : (l l' : List ℤ) (s : ℕ) → ((x : ℕ) → startsAt s ≤ x → x < startsAt s + 8 → word l' x ≡ word l x) → hullAt l' s ≡ hullAt l s

@@ -15,6 +15,7 @@ use Rattle.integers.specs.Below.{anyBelow}
 use Rattle.integers.specs.Words.{word}
 use Rattle.integers.proofs.Booleans.{clash, and-true, true-and, or-true, or-left, or-right}
 use Rattle.integers.proofs.Ints.{ints}
+use Rattle.integers.proofs.Machine.{within-by}
 use Rattle.integers.proofs.Below.{all-same, any-zero, any-at, any-true, below-or, last-or}
 use Rattle.sheet.specs.Layout.{Lent, dims, axes, boxes, rules, rows, isOf}
 use Rattle.sheet.specs.Allowed.{pairForbids, shapesForbid, forbidden}
@@ -22,19 +23,23 @@ use Rattle.sheet.specs.Accepted.{Count, Head}
 use Rattle.sheet.proofs.Forbidden.{shapes-by, shapes-parts, set-by, forbidden-by}
 use Rattle.region.specs.declared.Area.{Area}
 use Rattle.region.specs.Area.{inArea, InField}
-use Rattle.nearby.specs.declared.Nearby.{Nearby}
-use Rattle.nearby.specs.declared.hull.Hull.{Hull}
-use Rattle.nearby.specs.Hull.{HullTo}
-use Rattle.nearby.specs.Listing.{headLen, entryAt, entryHolds, entryRule, entryRow, entryBox, SameTo, Entered, Ready, Sound, Rivals, Entry, Met, Gathered, Grows, Listed, rivalForbids, Opponent}
-use Rattle.nearby.proofs.Fours.{hull-kept}
+use Rattle.nearby.specs.Hull.{Hull, fourAt, HullTo}
+use Rattle.nearby.specs.Listing.{headLen, full, areaAt, entryAt, entryHolds, entryRule, entryRow, entryBox, SameTo, Entered, Ready, Sound, Rivals, Entry, Solid}
+use Rattle.nearby.specs.Listing.{Met, Gathered, Open, Grows, Listed, rivalForbids, Opponent}
+use Rattle.nearby.proofs.Fours.{four-kept, hull-kept}
 use Rattle.nearby.proofs.Head.{index-kept, rules-kept}
+use Rattle.nearby.proofs.Entries.{areaBy, area-kept}
 
 -- ---- what stays where the words before an entry do
 entry-room : {e n : ℕ} → e < n → entryAt e + 11 ≤ entryAt n
 entry-room h = omega arith
 
+-- the area is written: four words, and four after them
+pub area-written : {l l' : List ℤ} {a : Area} → fourAt l 417 ≡ a .low → SameTo 421 l l' → fourAt l' 421 ≡ a .high → areaAt l' ≡ a
+area-written {l} {l'} e same f = ap₂ areaBy (four-kept l l' 417 (λ x g k. same .words x (omega arith)) ∙ e) f
+
 module _ {at : ℕ} {l l' : List ℤ} (same : SameTo at l l') where
-  pub ready-kept : (lent : Lent) → Head lent → headLen ≤ at → Ready lent l → Ready lent l'
+  pub ready-kept : (lent : Lent) → Head lent → 417 ≤ at → Ready lent l → Ready lent l'
   ready-kept lent f h r = record {
     long = omega (arith, r .long, same .long);
     index = index-kept f (λ x k. same .words x (omega arith)) (r .index);
@@ -61,82 +66,129 @@ module _ {at : ℕ} {l l' : List ℤ} (same : SameTo at l l') where
         ∙ ap (λ (z : ℤ). pairForbids lent t (entryRule l e) p i b (nat z) (entryBox l' e)) (same .words (entryAt e + 1) (omega arith))
         ∙ ap (λ (z : ℤ). pairForbids lent t (entryRule l e) p i b (entryRow l e) (nat z)) (same .words (entryAt e + 2) (omega arith))
 
-    met-kept : {n m : ℕ} {p : List ℤ} → dims lent ≤ 4 → entryAt n ≤ at → n ≤ m → Met lent t i s l n p → Met lent t i s l' m p
-    met-kept {n} {m} {p} f h g w =
-        let r : entryAt (w .entry) + 11 ≤ at = omega (arith, entry-room (w .below)) in
-        record {
-          entry = w .entry;
-          below = omega (arith, w .below);
-          holds = holds-kept (w .entry) (dims lent) p f r ∙ w .holds;
-          own = w .own;
-          own-below = w .own-below;
-          own-is = w .own-is;
-          pair = forbids-kept (w .entry) (w .own) p r ∙ w .pair;
-        }
+    module _ (few : dims lent ≤ 4) where
+      solid-kept : (e : ℕ) → entryAt e + 11 ≤ at → Solid lent t i s l e → Solid lent t i s l' e
+      solid-kept e h w = record {
+        small = λ x k. within-by (same .words (entryAt e + 3 + x) (omega arith)) (w .small x k);
+        fills = λ b o p k. w .fills b o p (sym (holds-kept e (dims lent) p few h) ∙ k);
+      }
 
-module _ (lent : Lent) (t : List ℤ) (i s : ℕ) (a : Area) where
+      met-kept : {n m : ℕ} {p : List ℤ} → entryAt n ≤ at → n ≤ m → Met lent t i s l n p → Met lent t i s l' m p
+      met-kept {n} {m} {p} h g w =
+          let r : entryAt (w .entry) + 11 ≤ at = omega (arith, entry-room (w .below)) in
+          record {
+            entry = w .entry;
+            below = omega (arith, w .below);
+            holds = holds-kept (w .entry) (dims lent) p few r ∙ w .holds;
+            own = w .own;
+            own-below = w .own-below;
+            own-is = w .own-is;
+            pair = forbids-kept (w .entry) (w .own) p r ∙ w .pair;
+          }
+
+module _ (lent : Lent) (t : List ℤ) (i s : ℕ) where
   -- ---- a list that has met more has met less
-  pub gathered-by : {l : List ℤ} {x : Nearby} {G H : List ℤ → Bool} → ((p : List ℤ) → H p ≡ true → G p ≡ true)
-      → Gathered lent t i s l x a G → Gathered lent t i s l x a H
-  gathered-by f g = record { ready = g .ready; fits = g .fits; entries = g .entries; met = λ w p j n h. g .met w p j n (f p h) }
+  pub gathered-by : {l : List ℤ} {n : ℕ} {a : Area} {G H : List ℤ → Bool} → ((p : List ℤ) → H p ≡ true → G p ≡ true)
+      → Gathered lent t i s l n a G → Gathered lent t i s l n a H
+  gathered-by f g = record {
+    ready = g .ready;
+    area = g .area;
+    fits = g .fits;
+    entries = g .entries;
+    solid = g .solid;
+    met = λ w p j m h. g .met w p j m (f p h);
+  }
 
-  module _ {l l' : List ℤ} {x x' : Nearby} where
+  -- a list whose words before its end are the same
+  gathered-kept : {l l' : List ℤ} {n : ℕ} {a : Area} {G : List ℤ → Bool} → Head lent → SameTo (entryAt n) l l'
+      → Gathered lent t i s l n a G → Gathered lent t i s l' n a G
+  gathered-kept head same g = record {
+    ready = ready-kept same lent head (omega arith) (g .ready);
+    area = area-kept same (omega arith) ∙ g .area;
+    fits = λ w. omega (arith, g .fits w, same .long);
+    entries = λ w e k. rivals-kept same lent t i s e (entry-room k) (g .entries w e k);
+    solid = λ w e k. solid-kept same lent t i s (head .few-dims) e (entry-room k) (g .solid w e k);
+    met = λ w p j m h. met-kept same lent t i s (head .few-dims) (omega arith) (omega arith) (g .met w p j m h);
+  }
+
+  module _ {l l' : List ℤ} {n n' : ℕ} where
     pub grows-by : {H K : List ℤ → Bool} → ((p : List ℤ) → K p ≡ true → H p ≡ true)
-        → Grows lent t i s a H l x l' x' → Grows lent t i s a K l x l' x'
+        → Grows lent t i s H l n l' n' → Grows lent t i s K l n l' n'
     grows-by {H} {K} f g = record {
-      after = λ G w. gathered-by (λ p h. ⊎-elim (λ u. or-left (H p) u) (λ u. or-right (G p) (f p u)) (or-true {a = G p} h)) (g .after G w);
+      after = λ a G w. gathered-by (λ p h. ⊎-elim (λ u. or-left (H p) u) (λ u. or-right (G p) (f p u)) (or-true {a = G p} h)) (g .after a G w);
     }
 
     -- the list is as good after a step as before
-    pub open-after : {H : List ℤ → Bool} → Grows lent t i s a H l x l' x' → Gathered lent t i s l x a (λ p. false)
-        → Gathered lent t i s l' x' a (λ p. false)
-    open-after g w = gathered-by (λ p h. clash h refl) (g .after (λ p. false) w)
+    pub open-after : {H : List ℤ → Bool} → Grows lent t i s H l n l' n' → Open lent t i s l n → Open lent t i s l' n'
+    open-after g w =
+        let x = gathered-by (λ p h. clash h refl) (g .after (areaAt l) (λ p. false) w) in
+        subst (λ (a : Area). Gathered lent t i s l' n' a (λ p. false)) (sym (x .area)) x
 
-    pub grows-then : {l'' : List ℤ} {x'' : Nearby} {H K : List ℤ → Bool}
-        → Grows lent t i s a H l x l' x' → Grows lent t i s a K l' x' l'' x'' → Grows lent t i s a (λ p. H p || K p) l x l'' x''
+    pub grows-then : {l'' : List ℤ} {n'' : ℕ} {H K : List ℤ → Bool}
+        → Grows lent t i s H l n l' n' → Grows lent t i s K l' n' l'' n'' → Grows lent t i s (λ p. H p || K p) l n l'' n''
     grows-then {H} {K} g k = record {
-      after = λ G w.
+      after = λ a G w.
           gathered-by (λ p h. ⊎-elim (λ u. or-left (K p) (or-left (H p) u))
           (λ u. ⊎-elim (λ v. or-left (K p) (or-right (G p) v)) (λ v. or-right (G p || H p) v) (or-true {a = H p} u)) (or-true {a = G p} h))
-          (k .after (λ p. G p || H p) (g .after G w));
+          (k .after a (λ p. G p || H p) (g .after a G w));
     }
 
   -- ---- a list without entries
-  pub gathered-start : {l : List ℤ} → Ready lent l → Gathered lent t i s l (record { count = 0; whole = true }) a (λ p. false)
-  gathered-start r = record {
+  pub gathered-start : {l : List ℤ} {a : Area} → Ready lent l → areaAt l ≡ a → Gathered lent t i s l 0 a (λ p. false)
+  gathered-start r q = record {
     ready = r;
-    fits = omega (arith, r .long);
-    entries = λ e h. absurd (omega (arith, h));
-    met = λ w p j n h. clash h refl;
+    area = q;
+    fits = λ w. omega (arith, r .long);
+    entries = λ w e h. absurd (omega (arith, h));
+    solid = λ w e h. absurd (omega (arith, h));
+    met = λ w p j m h. clash h refl;
   }
 
-  pub listed-none : {l : List ℤ} → headLen ≤ length l → Listed lent t i s a l (record { count = 0; whole = false })
-  listed-none r p h = record {
+  pub listed-none : {l : List ℤ} (a : Area) → headLen ≤ length l → Listed lent t i s a l (record { count = 0; whole = false })
+  listed-none a r p h = record {
     fits = omega (arith, r);
     entries = λ e k. absurd (omega (arith, k));
+    solid = λ e k. absurd (omega (arith, k));
     met = λ w. clash w refl;
   }
 
   -- ---- nothing to add
-  module _ {l : List ℤ} {x : Nearby} {H : List ℤ → Bool} where
-    pub grows-clear : ((p : List ℤ) → inArea (axes lent) a p ≡ true → InField (dims lent) p → H p ≡ true → ⊥)
-        → Grows lent t i s a H l x l x
+  abbrev NoneIn : List ℤ → (List ℤ → Bool) → Type 0
+  NoneIn l H = (p : List ℤ) → inArea (axes lent) (areaAt l) p ≡ true → InField (dims lent) p → H p ≡ true → ⊥
+
+  module _ {l : List ℤ} {n : ℕ} {H : List ℤ → Bool} where
+    pub grows-clear : NoneIn l H → Grows lent t i s H l n l n
     grows-clear f = record {
-      after = λ G w. record {
+      after = λ a G w. record {
         ready = w .ready;
+        area = w .area;
         fits = w .fits;
         entries = w .entries;
-        met = λ u p j n h. ⊎-elim (λ v. w .met u p j n v) (λ v. absurd (f p j n v)) (or-true {a = G p} h);
+        solid = w .solid;
+        met = λ u p j m h.
+            ⊎-elim (λ v. w .met u p j m v)
+            (λ v. absurd (f p (subst (λ (b : Area). inArea (axes lent) b p ≡ true) (sym (w .area)) j) m v)) (or-true {a = G p} h);
       };
     }
 
-    pub grows-none : ((p : List ℤ) → H p ≡ false) → Grows lent t i s a H l x l x
-    grows-none f = grows-clear (λ p j n h. clash h (f p))
+    -- words past the entries are written
+    pub grows-past : {l' : List ℤ} → Head lent → SameTo (entryAt n) l l' → NoneIn l H → Grows lent t i s H l n l' n
+    grows-past head same f = record { after = λ a G w. gathered-kept head same (grows-clear f .after a G w) }
 
-    -- no room: the list is no longer whole
-    pub grows-full : Grows lent t i s a H l x l (record { count = x .count; whole = false })
+    pub grows-none : ((p : List ℤ) → H p ≡ false) → Grows lent t i s H l n l n
+    grows-none f = grows-clear (λ p j m h. clash h (f p))
+
+    -- no room: the list is full
+    pub grows-full : Grows lent t i s H l n l full
     grows-full = record {
-      after = λ G w. record { ready = w .ready; fits = w .fits; entries = w .entries; met = λ u. clash u refl };
+      after = λ a G w. record {
+        ready = w .ready;
+        area = w .area;
+        fits = λ u. absurd (omega (arith, u));
+        entries = λ u. absurd (omega (arith, u));
+        solid = λ u. absurd (omega (arith, u));
+        met = λ u. absurd (omega (arith, u));
+      };
     }
 
   -- ---- one entry more
@@ -150,13 +202,10 @@ module _ (lent : Lent) (t : List ℤ) (i s : ℕ) (a : Area) where
         (subst (λ (z : ℤ). Rivals lent t i s (word l' (entryAt e)) z (pos c)) (sym (w .row))
         (subst (λ (z : ℤ). Rivals lent t i s z (pos j) (pos c)) (sym (w .rule)) v))
 
-  module _ {l l' : List ℤ} (x : Nearby) {r j c : ℕ} {h : Hull} (head : Head lent) (few-rows : rows lent t ≤ 32)
+  module _ {l l' : List ℤ} (n : ℕ) {r j c : ℕ} {h : Hull} (head : Head lent) (few-rows : rows lent t ≤ 32)
       (hull : HullTo lent s (boxes lent) h)
       (rule : r < rules lent) (from : 1 ≤ j) (upto : j ≤ rows lent t) (box : c < boxes lent) (sound : Sound lent t i s r j c)
-      (w : Entered lent t r j c h (x .count) l l') (room : entryAt (suc (x .count)) ≤ length l) where
-    abbrev more : Nearby
-    more = record { count = x .count + 1; whole = x .whole }
-
+      (w : Entered lent t r j c h n l l') (room : entryAt (suc n) ≤ length l) where
     new-rivals : Rivals lent t i s (pos r) (pos j) (pos c)
     new-rivals = record {
       names = record {
@@ -171,47 +220,59 @@ module _ (lent : Lent) (t : List ℤ) (i s : ℕ) (a : Area) where
       sound = sound;
     }
 
-    new-met : (p : List ℤ) → InField (dims lent) p → rivalForbids lent t i s r j c p ≡ true → Met lent t i s l' (x .count + 1) p
+    new-solid : Solid lent t i s l' n
+    new-solid = record {
+      small = w .small;
+      fills = λ b o p k. sound .forbids b p (o .below) (o .is) (w .fills i b p (hull .exact b o) k);
+    }
+
+    new-met : (p : List ℤ) → InField (dims lent) p → rivalForbids lent t i s r j c p ≡ true → Met lent t i s l' (n + 1) p
     unfolding rivalForbids
-    new-met p n f =
+    new-met p m f =
         let u = any-at f in
         let v = and-true {a = isOf lent (u .0) s} (u .2) in
         record {
-          entry = x .count;
+          entry = n;
           below = omega arith;
-          holds = w .holds i (u .0) p (λ d k. hull .holds (u .0) d (u .1) (v .0) k) n (v .1);
+          holds = w .holds i (u .0) p (λ d k. hull .holds (u .0) d (u .1) (v .0) k) m (v .1);
           own = u .0;
           own-below = u .1;
           own-is = v .0;
           pair =
-              ap (λ (m : ℕ). pairForbids lent t m p i (u .0) (entryRow l' (x .count)) (entryBox l' (x .count))) (ap nat (w .rule))
-              ∙ ap (λ (m : ℕ). pairForbids lent t r p i (u .0) m (entryBox l' (x .count))) (ap nat (w .row))
+              ap (λ (m : ℕ). pairForbids lent t m p i (u .0) (entryRow l' n) (entryBox l' n)) (ap nat (w .rule))
+              ∙ ap (λ (m : ℕ). pairForbids lent t r p i (u .0) m (entryBox l' n)) (ap nat (w .row))
               ∙ ap (λ (m : ℕ). pairForbids lent t r p i (u .0) j m) (ap nat (w .box)) ∙ v .1;
         }
 
-    pub grows-entry : Grows lent t i s a (rivalForbids lent t i s r j c) l x l' more
+    -- what holds of the new entry and of each entry before it
+    each : (P : ℕ → Type 0) → P n → ((e : ℕ) → e < n → P e) → (e : ℕ) → e < n + 1 → P e
+    each P p f e k = ⊎-elim (λ q. subst P (sym q) p) (f e) (last-or (rw (← add-one n) k))
+
+    pub grows-entry : Grows lent t i s (rivalForbids lent t i s r j c) l n l' (n + 1)
     grows-entry = record {
-      after = λ G g. record {
+      after = λ a G g. record {
         ready = ready-kept (w .same) lent head (omega arith) (g .ready);
-        fits = omega (arith, room, w .same .long);
-        entries = λ e k. ⊎-elim
-            (λ q. subst (Entry lent t i s l') (sym q) (rivals w new-rivals))
-            (λ m. rivals-kept (w .same) lent t i s e (entry-room m) (g .entries e m)) (last-or (rw (← add-one (x .count)) k));
-        met = λ u p n f k. ⊎-elim
-            (λ v. met-kept (w .same) lent t i s (head .few-dims) (omega arith) (omega arith) (g .met u p n f v))
+        area = area-kept (w .same) (omega arith) ∙ g .area;
+        fits = λ v. omega (arith, room, w .same .long);
+        entries = λ v. each (Entry lent t i s l') (rivals w new-rivals)
+            (λ e m. rivals-kept (w .same) lent t i s e (entry-room m) (g .entries (omega (arith, v)) e m));
+        solid = λ v. each (Solid lent t i s l') new-solid
+            (λ e m. solid-kept (w .same) lent t i s (head .few-dims) e (entry-room m) (g .solid (omega (arith, v)) e m));
+        met = λ u p m f k. ⊎-elim
+            (λ v. met-kept (w .same) lent t i s (head .few-dims) (omega arith) (omega arith) (g .met (omega (arith, u)) p m f v))
             (λ v. new-met p f v) (or-true {a = G p} k);
       };
     }
 
   -- ---- loops
-  pub grows-start : (F : ℕ → List ℤ → Bool) {l : List ℤ} {x : Nearby} → Grows lent t i s a (λ p. anyBelow 0 (λ m. F m p)) l x l x
+  pub grows-start : (F : ℕ → List ℤ → Bool) {l : List ℤ} {n : ℕ} → Grows lent t i s (λ p. anyBelow 0 (λ m. F m p)) l n l n
   grows-start F = grows-none (λ p. any-zero (λ m. F m p))
 
-  module _ (F : ℕ → List ℤ → Bool) {l l' : List ℤ} {x x' : Nearby} where
+  module _ (F : ℕ → List ℤ → Bool) {l l' : List ℤ} {k k' : ℕ} where
     -- the next that can pass is m, after n
-    pub grows-skip : {l'' : List ℤ} {x'' : Nearby} {n m : ℕ} → Grows lent t i s a (λ p. anyBelow n (λ y. F y p)) l x l' x'
-        → Grows lent t i s a (F n) l' x' l'' x'' → ((y : ℕ) (p : List ℤ) → n < y → y < m → F y p ≡ false)
-        → Grows lent t i s a (λ p. anyBelow m (λ y. F y p)) l x l'' x''
+    pub grows-skip : {l'' : List ℤ} {k'' n m : ℕ} → Grows lent t i s (λ p. anyBelow n (λ y. F y p)) l k l' k'
+        → Grows lent t i s (F n) l' k' l'' k'' → ((y : ℕ) (p : List ℤ) → n < y → y < m → F y p ≡ false)
+        → Grows lent t i s (λ p. anyBelow m (λ y. F y p)) l k l'' k''
     grows-skip {n = n} {m = m} g k f =
         grows-by (λ p h.
         let u = any-at {n = m} {f = λ y. F y p} h in
@@ -220,8 +281,8 @@ module _ (lent : Lent) (t : List ℤ) (i s : ℕ) (a : Area) where
         (λ q. clash (u .2) (f (u .0) p q (u .1))) (eq-or-lt-of-le b)) (below-or (u .0) n))
         (grows-then g k)
 
-    pub grows-more : {l'' : List ℤ} {x'' : Nearby} {n : ℕ} → Grows lent t i s a (λ p. anyBelow n (λ y. F y p)) l x l' x'
-        → Grows lent t i s a (F n) l' x' l'' x'' → Grows lent t i s a (λ p. anyBelow (n + 1) (λ y. F y p)) l x l'' x''
+    pub grows-more : {l'' : List ℤ} {k'' n : ℕ} → Grows lent t i s (λ p. anyBelow n (λ y. F y p)) l k l' k'
+        → Grows lent t i s (F n) l' k' l'' k'' → Grows lent t i s (λ p. anyBelow (n + 1) (λ y. F y p)) l k l'' k''
     grows-more g k = grows-skip g k (λ y p h q. absurd (omega (arith, h, q)))
 
 -- ---- rule r keeps row i apart from row j with the one shape s'

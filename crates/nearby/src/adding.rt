@@ -1,6 +1,6 @@
 // Listing: every rule that counts and names the row, every other row that it names, every box of that row's one shape.
 ghost use mathlib.Core.Path.{_≡_};
-ghost use mathlib.Core.Bool.{true, false, _&&_};
+ghost use mathlib.Core.Bool.{true, _&&_};
 ghost use Prim.Native.Nat.{_<_, _≤_};
 ghost use lib.IntN.{pos};
 ghost use Rattle.integers.specs.Bits.{bit};
@@ -8,13 +8,13 @@ ghost use Rattle.sheet.specs.Layout.{lentOf, rules, rows, isOf, isNonOverlap, n
 ghost use Rattle.sheet.specs.Allowed.{shapesForbid, rowForbids};
 ghost use Rattle.words.specs.Places.{BoxPlace, RulePlace, RowPlace};
 ghost use Rattle.forbid.specs.Region.{rowsForbid, ruleForbids};
-ghost use Rattle.nearby.specs.Listing.{Asks, Sound, Gathered, Grows, rivalForbids, Opponent};
-use crate::Nearby;
+ghost use Rattle.nearby.specs.Listing.{Asks, Sound, Open, Grows, rivalForbids, Opponent};
 use crate::entry;
 use crate::entry::Query;
 use crate::entry::Rival;
 use crate::index;
 use crate::layout::ENTRY;
+use crate::layout::FULL;
 use words::Place;
 
 // Lists one box of another row, if it can forbid a point of the area and there is room.
@@ -22,37 +22,30 @@ fn add_box(
     block: &[i64],
     table: &[i64],
     list: &mut [i64],
-    nearby: Nearby,
+    count: usize,
     q: Query,
     x: Rival,
-) -> Nearby
+) -> usize
     requires { ⌜ Asks (lentOf (now block)) (now table) q × RulePlace (lentOf (now block)) (x .r)
         × RowPlace (lentOf (now block)) (now table) (x .j) × BoxPlace (lentOf (now block)) (x .c)
         × Sound (lentOf (now block)) (now table) (q .i .number) (q .s) (x .r .number) (x .j .number) (x .c .number)
-        × Gathered (lentOf (now block)) (now table) (q .i .number) (q .s) (now list) nearby (q .area) (λ p. false) ⌝ }
-    ensures { λ y. ⌜ Grows (lentOf (now (block .entry))) (now (table .entry)) (q .i .number) (q .s) (q .area)
+        × Open (lentOf (now block)) (now table) (q .i .number) (q .s) (now list) count ⌝ }
+    ensures { λ y. ⌜ Grows (lentOf (now (block .entry))) (now (table .entry)) (q .i .number) (q .s)
         (rivalForbids (lentOf (now (block .entry))) (now (table .entry)) (q .i .number) (q .s) (x .r .number) (x .j .number) (x .c .number))
-        (now (list .entry)) nearby (now (list .exit)) y ⌝ }
+        (now (list .entry)) count (now (list .exit)) y ⌝ }
 {
-    let hull = q.hull;
-    let area = q.area;
-    let e = nearby.count;
-    let whole = nearby.whole;
-    if !entry::is_near(block, table, x, hull, area) {
-        return nearby;
+    if count >= FULL {
+        return FULL;
     }
-    let at = entry::entry_at(list, e);
+    let at = entry::entry_at(list, count);
     if list.len() - at < ENTRY {
-        return Nearby {
-            count: e,
-            whole: false,
-        };
+        return FULL;
     }
-    entry::write_entry(block, table, list, e, x, hull);
-    Nearby {
-        count: e + 1,
-        whole,
+    let s = q.s;
+    if !entry::put_entry(block, table, list, count, x, s) {
+        return count;
     }
+    count + 1
 }
 
 // Lists box c of row j, if it is one of shape t, the row's one shape.
@@ -60,25 +53,25 @@ fn add_box_of(
     block: &[i64],
     table: &[i64],
     list: &mut [i64],
-    nearby: Nearby,
+    count: usize,
     q: Query,
     x: Rival,
     t: usize,
-) -> Nearby
+) -> usize
     requires { ⌜ Asks (lentOf (now block)) (now table) q × RulePlace (lentOf (now block)) (x .r)
         × RowPlace (lentOf (now block)) (now table) (x .j) × BoxPlace (lentOf (now block)) (x .c)
         × Opponent (lentOf (now block)) (now table) (q .i .number) (x .r .number) (x .j .number) t
-        × Gathered (lentOf (now block)) (now table) (q .i .number) (q .s) (now list) nearby (q .area) (λ p. false) ⌝ }
-    ensures { λ y. ⌜ Grows (lentOf (now (block .entry))) (now (table .entry)) (q .i .number) (q .s) (q .area)
+        × Open (lentOf (now block)) (now table) (q .i .number) (q .s) (now list) count ⌝ }
+    ensures { λ y. ⌜ Grows (lentOf (now (block .entry))) (now (table .entry)) (q .i .number) (q .s)
         (λ p. isOf (lentOf (now (block .entry))) (x .c .number) t
         && rivalForbids (lentOf (now (block .entry))) (now (table .entry)) (q .i .number) (q .s) (x .r .number) (x .j .number) (x .c .number) p)
-        (now (list .entry)) nearby (now (list .exit)) y ⌝ }
+        (now (list .entry)) count (now (list .exit)) y ⌝ }
 {
     let c = x.c;
     if !words::box_is(block, c, t) {
-        return nearby;
+        return count;
     }
-    add_box(block, table, list, nearby, q, x)
+    add_box(block, table, list, count, q, x)
 }
 
 // Lists the boxes of row j, whose one shape is t.
@@ -86,21 +79,21 @@ fn add_shape(
     block: &[i64],
     table: &[i64],
     list: &mut [i64],
-    nearby: Nearby,
+    count: usize,
     q: Query,
     r: Place,
     j: Place,
     t: usize,
-) -> Nearby
+) -> usize
     requires { ⌜ Asks (lentOf (now block)) (now table) q × RulePlace (lentOf (now block)) r × RowPlace (lentOf (now block)) (now table) j
         × Opponent (lentOf (now block)) (now table) (q .i .number) (r .number) (j .number) t
-        × Gathered (lentOf (now block)) (now table) (q .i .number) (q .s) (now list) nearby (q .area) (λ p. false) ⌝ }
-    ensures { λ y. ⌜ Grows (lentOf (now (block .entry))) (now (table .entry)) (q .i .number) (q .s) (q .area)
+        × Open (lentOf (now block)) (now table) (q .i .number) (q .s) (now list) count ⌝ }
+    ensures { λ y. ⌜ Grows (lentOf (now (block .entry))) (now (table .entry)) (q .i .number) (q .s)
         (λ p. shapesForbid (lentOf (now (block .entry))) (now (table .entry)) (r .number) p (q .i .number) (q .s) (j .number) t)
-        (now (list .entry)) nearby (now (list .exit)) y ⌝ }
+        (now (list .entry)) count (now (list .exit)) y ⌝ }
 {
     let n = words::boxes_of(block);
-    let mut found = nearby;
+    let mut found = count;
     let mut at = index::first_of(block, list, t);
     while at < n {
         let c = words::box_place(block, at);
@@ -116,37 +109,39 @@ fn add_row(
     block: &[i64],
     table: &[i64],
     list: &mut [i64],
-    nearby: Nearby,
+    count: usize,
     q: Query,
     r: Place,
     j: usize,
-) -> Nearby
+) -> usize
     requires { ⌜ Asks (lentOf (now block)) (now table) q × RulePlace (lentOf (now block)) r
         × (isNonOverlap (lentOf (now block)) (r .number) ≡ true) × (namesRow (lentOf (now block)) (r .number) (q .i .number) ≡ true)
         × (1 ≤ j) × (j ≤ rows (lentOf (now block)) (now table))
-        × Gathered (lentOf (now block)) (now table) (q .i .number) (q .s) (now list) nearby (q .area) (λ p. false) ⌝ }
-    ensures { λ y. ⌜ Grows (lentOf (now (block .entry))) (now (table .entry)) (q .i .number) (q .s) (q .area)
+        × Open (lentOf (now block)) (now table) (q .i .number) (q .s) (now list) count ⌝ }
+    ensures { λ y. ⌜ Grows (lentOf (now (block .entry))) (now (table .entry)) (q .i .number) (q .s)
         (λ p. rowForbids (lentOf (now (block .entry))) (now (table .entry)) (r .number) p (q .i .number) (q .s) j)
-        (now (list .entry)) nearby (now (list .exit)) y ⌝ }
+        (now (list .entry)) count (now (list .exit)) y ⌝ }
 {
     let own = q.i.number;
     if own == j {
-        return nearby;
+        return count;
     }
     if !words::names_row(block, r, j) {
-        return nearby;
+        return count;
     }
     let other = words::row_place(block, table, j);
     let t = forbid::row::only_shape(block, table, other);
     if t == 0 {
-        return nearby;
+        return count;
     }
-    let s = q.s;
-    let area = q.area;
-    if !entry::is_shape_near(block, table, list, r, other, t, s, area) {
-        return nearby;
+    if !index::is_single(block, list, t) {
+        let s = q.s;
+        let area = entry::area_at(list);
+        if !entry::is_shape_near(block, table, list, r, other, t, s, area) {
+            return count;
+        }
     }
-    add_shape(block, table, list, nearby, q, r, other, t)
+    add_shape(block, table, list, count, q, r, other, t)
 }
 
 // Lists every row of rule r.
@@ -154,19 +149,19 @@ fn add_rows(
     block: &[i64],
     table: &[i64],
     list: &mut [i64],
-    nearby: Nearby,
+    count: usize,
     q: Query,
     r: Place,
-) -> Nearby
+) -> usize
     requires { ⌜ Asks (lentOf (now block)) (now table) q × RulePlace (lentOf (now block)) r
         × (isNonOverlap (lentOf (now block)) (r .number) ≡ true) × (namesRow (lentOf (now block)) (r .number) (q .i .number) ≡ true)
-        × Gathered (lentOf (now block)) (now table) (q .i .number) (q .s) (now list) nearby (q .area) (λ p. false) ⌝ }
-    ensures { λ y. ⌜ Grows (lentOf (now (block .entry))) (now (table .entry)) (q .i .number) (q .s) (q .area)
+        × Open (lentOf (now block)) (now table) (q .i .number) (q .s) (now list) count ⌝ }
+    ensures { λ y. ⌜ Grows (lentOf (now (block .entry))) (now (table .entry)) (q .i .number) (q .s)
         (rowsForbid (lentOf (now (block .entry))) (now (table .entry)) (r .number) (q .i .number) (q .s))
-        (now (list .entry)) nearby (now (list .exit)) y ⌝ }
+        (now (list .entry)) count (now (list .exit)) y ⌝ }
 {
     let n = words::rows_of(block, table);
-    let mut found = nearby;
+    let mut found = count;
     let mut j = 0;
     while j < n {
         found = add_row(block, table, list, found, q, r, j + 1);
@@ -188,24 +183,24 @@ pub fn add_rule(
     block: &[i64],
     table: &[i64],
     list: &mut [i64],
-    nearby: Nearby,
+    count: usize,
     q: Query,
     counted: u32,
     r: usize,
-) -> Nearby
+) -> usize
     requires { ⌜ Asks (lentOf (now block)) (now table) q × (r < rules (lentOf (now block)))
-        × Gathered (lentOf (now block)) (now table) (q .i .number) (q .s) (now list) nearby (q .area) (λ p. false) ⌝ }
-    ensures { λ y. ⌜ Grows (lentOf (now (block .entry))) (now (table .entry)) (q .i .number) (q .s) (q .area)
+        × Open (lentOf (now block)) (now table) (q .i .number) (q .s) (now list) count ⌝ }
+    ensures { λ y. ⌜ Grows (lentOf (now (block .entry))) (now (table .entry)) (q .i .number) (q .s)
         (λ p. bit (pos counted) r && ruleForbids (lentOf (now (block .entry))) (now (table .entry)) (q .i .number) (q .s) r p)
-        (now (list .entry)) nearby (now (list .exit)) y ⌝ }
+        (now (list .entry)) count (now (list .exit)) y ⌝ }
 {
     if !holds(counted, r) {
-        return nearby;
+        return count;
     }
     let rule = words::rule_place(block, r);
     let row = q.i.number;
     if !forbid::is_non_overlap_of(block, rule, row) {
-        return nearby;
+        return count;
     }
-    add_rows(block, table, list, nearby, q, rule)
+    add_rows(block, table, list, count, q, rule)
 }

@@ -3,15 +3,17 @@ ghost use mathlib.Core.Path.{_≡_};
 ghost use mathlib.Core.Bool.{true, false};
 ghost use Prim.Native.Nat.{ℕ, suc, _+_, _*_, _<_, _≤_};
 ghost use lib.ListN.{length};
-ghost use lib.IntN.{ℤ};
+ghost use lib.IntN.{ℤ, pos};
 ghost use Rattle.integers.specs.Integer.{nat, within};
 ghost use Rattle.integers.specs.Words.{word};
 ghost use Rattle.sheet.specs.Layout.{lentOf, dims};
 ghost use Rattle.sheet.specs.Accepted.{Head, Block, Table};
 ghost use Rattle.words.specs.Places.{BoxPlace, RulePlace, RowPlace};
-ghost use Rattle.nearby.specs.Hull.{Modest, Reaches};
-ghost use Rattle.nearby.specs.Listing.{entryAt, entryHolds, entryRule, entryRow, entryBox, SameTo, Entered, Clear, ShapeClear, Ready, Names};
-use crate::hull::Hull;
+ghost use Rattle.nearby.specs.Hull.{hullAt, Reaches, Fills};
+ghost use Rattle.nearby.specs.Listing.{areaAt, entryAt, entryHolds, entryArea, entryRule, entryRow, entryBox, sideAt, SameTo, Entered, Clear};
+ghost use Rattle.nearby.specs.Listing.{ShapeClear, Ready, Names};
+use crate::hull;
+use crate::layout::AREA;
 use crate::layout::ENTRY;
 use crate::layout::HEAD;
 use crate::side;
@@ -19,12 +21,10 @@ use region::Area;
 use region::COORDINATES;
 use words::Place;
 
-// Who is asked about: row i with shape s and its hull, in an area.
+// Who is asked about: row i with shape s.
 pub struct Query {
     pub i: Place,
     pub s: usize,
-    pub hull: Hull,
-    pub area: Area,
 }
 
 // A rule, another row and one of its boxes.
@@ -69,6 +69,18 @@ pub fn entry_holds(block: &[i64], list: &[i64], e: usize, p: [i64; COORDINATES])
     true
 }
 
+// The area of entry e.
+pub fn entry_area(list: &[i64], e: usize) -> Area
+    requires { ⌜ entryAt (suc e) ≤ length (now list) ⌝ }
+    ensures { λ r. ⌜ r ≡ entryArea (now (list .entry)) e ⌝ }
+{
+    let at = entry_at(list, e) + 3;
+    Area {
+        low: [list[at], list[at + 2], list[at + 4], list[at + 6]],
+        high: [list[at + 1], list[at + 3], list[at + 5], list[at + 7]],
+    }
+}
+
 // What entry e names.
 pub fn rival_at(block: &[i64], table: &[i64], list: &[i64], e: usize) -> Rival
     requires { ⌜ Block (lentOf (now block)) × Table (lentOf (now block)) (now table) × (entryAt (suc e) ≤ length (now list))
@@ -104,28 +116,6 @@ fn apart(from: i64, to: i64, low: i64, high: i64) -> bool
     to < from
 }
 
-// Whether the rival can forbid a point of the area to the hull; left at the first dimension that is clear.
-pub fn is_near(block: &[i64], table: &[i64], x: Rival, hull: Hull, area: Area) -> bool
-    requires { ⌜ Block (lentOf (now block)) × Table (lentOf (now block)) (now table) × RulePlace (lentOf (now block)) (x .r)
-        × RowPlace (lentOf (now block)) (now table) (x .j) × BoxPlace (lentOf (now block)) (x .c) × Modest hull ⌝ }
-    ensures { λ r. ⌜ (r ≡ false → Clear (lentOf (now (block .entry))) (now (table .entry)) (x .r .number) (x .j .number) (x .c .number)
-        hull area) ⌝ }
-{
-    let r = x.r;
-    let j = x.j;
-    let c = x.c;
-    let k = words::dims_of(block);
-    let mut d = 0;
-    while d < k {
-        let y = side::side_of(block, table, r, j, c, hull, d);
-        if apart(y.from, y.to, area.low[d], area.high[d]) {
-            return false;
-        }
-        d += 1;
-    }
-    true
-}
-
 // Whether shape t of row j can forbid a point of the area to shape s; left at the first dimension that is clear.
 pub fn is_shape_near(
     block: &[i64],
@@ -153,15 +143,31 @@ pub fn is_shape_near(
     true
 }
 
-// Writes the area's bounds in each dimension, from `at` on.
-fn write_sides(block: &[i64], table: &[i64], list: &mut [i64], at: usize, x: Rival, hull: Hull)
+// The area in the head of the list.
+pub fn area_at(list: &[i64]) -> Area
+    requires { ⌜ 425 ≤ length (now list) ⌝ }
+    ensures { λ r. ⌜ r ≡ areaAt (now (list .entry)) ⌝ }
+{
+    Area {
+        low: hull::four_at(list, AREA),
+        high: hull::four_at(list, AREA + 4),
+    }
+}
+
+// Writes from `at` on, dimension by dimension, the bounds of the area that the rival can forbid to shape s, and no further than the first
+// in which it is apart from the area in the head. Whether it is apart in none.
+fn put_sides(block: &[i64], table: &[i64], list: &mut [i64], at: usize, x: Rival, s: usize) -> bool
     requires { ⌜ Block (lentOf (now block)) × Table (lentOf (now block)) (now table) × RulePlace (lentOf (now block)) (x .r)
-        × RowPlace (lentOf (now block)) (now table) (x .j) × BoxPlace (lentOf (now block)) (x .c) × Modest hull
-        × (at + 8 ≤ length (now list)) ⌝ }
-    ensures { λ _. ⌜ SameTo at (now (list .entry)) (now (list .exit))
-        × ((d : ℕ) → d < dims (lentOf (now (block .entry))) → Reaches (lentOf (now (block .entry))) (now (table .entry)) (x .r .number)
-        (x .j .number) (x .c .number) hull d
-        (record { from = word (now (list .exit)) (at + 2 * d); to = word (now (list .exit)) (at + 2 * d + 1) })) ⌝ }
+        × RowPlace (lentOf (now block)) (now table) (x .j) × BoxPlace (lentOf (now block)) (x .c) × Ready (lentOf (now block)) (now list)
+        × (1 ≤ s) × (s ≤ 32) × (425 ≤ at) × (at + 8 ≤ length (now list)) ⌝ }
+    ensures { λ y. ⌜ SameTo at (now (list .entry)) (now (list .exit))
+        × (y ≡ true → (d : ℕ) → d < dims (lentOf (now (block .entry)))
+        → Reaches (lentOf (now (block .entry))) (now (table .entry)) (x .r .number) (x .j .number) (x .c .number)
+        (hullAt (now (list .entry)) s) d (sideAt (now (list .exit)) at d)
+        × Fills (lentOf (now (block .entry))) (now (table .entry)) (x .r .number) (x .j .number) (x .c .number)
+        (hullAt (now (list .entry)) s) d (sideAt (now (list .exit)) at d))
+        × (y ≡ false → Clear (lentOf (now (block .entry))) (now (table .entry)) (x .r .number) (x .j .number) (x .c .number)
+        (hullAt (now (list .entry)) s) (areaAt (now (list .entry)))) ⌝ }
 {
     let r = x.r;
     let j = x.j;
@@ -169,29 +175,64 @@ fn write_sides(block: &[i64], table: &[i64], list: &mut [i64], at: usize, x: Riv
     let k = words::dims_of(block);
     let mut d = 0;
     while d < k {
-        let y = side::side_of(block, table, r, j, c, hull, d);
+        let y = side::side_of(block, table, list, r, j, c, s, d);
         let from = y.from;
         let to = y.to;
+        if apart(
+            from,
+            to,
+            words::word_at(list, AREA + d),
+            words::word_at(list, AREA + 4 + d),
+        ) {
+            return false;
+        }
         list[at + 2 * d] = from;
         list[at + 2 * d + 1] = to;
         d += 1;
     }
+    true
 }
 
-// Writes entry e.
-pub fn write_entry(block: &[i64], table: &[i64], list: &mut [i64], e: usize, x: Rival, hull: Hull)
+// Zeros for the bounds in the dimensions from k on.
+fn pad_sides(list: &mut [i64], at: usize, k: usize)
+    requires { ⌜ (at + 8 ≤ length (now list)) × (k ≤ 4) ⌝ }
+    ensures { λ _. ⌜ SameTo (at + 2 * k) (now (list .entry)) (now (list .exit))
+        × ((x : ℕ) → 2 * k ≤ x → x < 8 → word (now (list .exit)) (at + x) ≡ pos 0) ⌝ }
+{
+    let mut d = k;
+    while d < COORDINATES {
+        list[at + 2 * d] = 0;
+        list[at + 2 * d + 1] = 0;
+        d += 1;
+    }
+}
+
+// Writes entry e, if the rival can forbid shape s a point of the area in the head. Whether it can.
+pub fn put_entry(
+    block: &[i64],
+    table: &[i64],
+    list: &mut [i64],
+    e: usize,
+    x: Rival,
+    s: usize,
+) -> bool
     requires { ⌜ Block (lentOf (now block)) × Table (lentOf (now block)) (now table) × RulePlace (lentOf (now block)) (x .r)
-        × RowPlace (lentOf (now block)) (now table) (x .j) × BoxPlace (lentOf (now block)) (x .c) × Modest hull
-        × (entryAt (suc e) ≤ length (now list)) ⌝ }
-    ensures { λ _. ⌜ Entered (lentOf (now (block .entry))) (now (table .entry)) (x .r .number) (x .j .number) (x .c .number) hull e
-        (now (list .entry)) (now (list .exit)) ⌝ }
+        × RowPlace (lentOf (now block)) (now table) (x .j) × BoxPlace (lentOf (now block)) (x .c) × Ready (lentOf (now block)) (now list)
+        × (1 ≤ s) × (s ≤ 32) × (entryAt (suc e) ≤ length (now list)) ⌝ }
+    ensures { λ y. ⌜ SameTo (entryAt e) (now (list .entry)) (now (list .exit))
+        × (y ≡ true → Entered (lentOf (now (block .entry))) (now (table .entry)) (x .r .number) (x .j .number) (x .c .number)
+        (hullAt (now (list .entry)) s) e (now (list .entry)) (now (list .exit)))
+        × (y ≡ false → Clear (lentOf (now (block .entry))) (now (table .entry)) (x .r .number) (x .j .number) (x .c .number)
+        (hullAt (now (list .entry)) s) (areaAt (now (list .entry)))) ⌝ }
 {
     let at = entry_at(list, e);
-    let r = x.r.number;
-    let j = x.j.number;
-    let c = x.c.number;
-    list[at] = r as i64;
-    list[at + 1] = j as i64;
-    list[at + 2] = c as i64;
-    write_sides(block, table, list, at + 3, x, hull);
+    list[at] = x.r.number as i64;
+    list[at + 1] = x.j.number as i64;
+    list[at + 2] = x.c.number as i64;
+    if !put_sides(block, table, list, at + 3, x, s) {
+        return false;
+    }
+    let k = words::dims_of(block);
+    pad_sides(list, at + 3, k);
+    true
 }

@@ -1,6 +1,6 @@
 // The head of a list: the boxes of each shape, as a chain from the first to the next, so that no search passes over all boxes.
 ghost use mathlib.Core.Path.{_≡_};
-ghost use mathlib.Core.Bool.{false};
+ghost use mathlib.Core.Bool.{true, false};
 ghost use Prim.Native.Nat.{ℕ, _+_, _<_, _≤_};
 ghost use lib.IntN.{pos};
 ghost use lib.ListN.{length, set};
@@ -10,6 +10,7 @@ ghost use Rattle.sheet.specs.Accepted.{Block};
 ghost use Rattle.words.specs.Places.{BoxPlace};
 ghost use Rattle.nearby.specs.Index.{firstAt, Index};
 ghost use Rattle.nearby.specs.Linked.{IndexFrom};
+ghost use Rattle.nearby.specs.Hull.{Single};
 use crate::layout::FIRST;
 use words::Place;
 
@@ -88,4 +89,21 @@ pub fn after(block: &[i64], list: &[i64], b: Place, s: usize) -> usize
         return words::count_at(list, at);
     }
     at + 1
+}
+
+// Whether shape s has one box: no other follows the first.
+pub fn is_single(block: &[i64], list: &[i64], s: usize) -> bool
+    requires { ⌜ Block (lentOf (now block)) × (161 ≤ length (now list)) × Index (lentOf (now block)) (now list) × (1 ≤ s) × (s ≤ 32) ⌝ }
+    ensures { λ r. ⌜ (r ≡ true → Single (lentOf (now (block .entry))) s) ⌝ }
+{
+    let n = words::boxes_of(block);
+    let first = first_of(block, list, s);
+    if first >= n {
+        return false;
+    }
+    let b = words::box_place(block, first);
+    if !words::box_is(block, b, s) {
+        return false;
+    }
+    after(block, list, b, s) >= n
 }

@@ -20,8 +20,11 @@ ghost use Rattle.words.specs.Places.{RulePlace, RowPlace};
 ghost use Rattle.forbid.specs.Pair.{PairPlaces, forbiddenBy};
 ghost use Rattle.forbid.specs.Region.{Forbids, Asked};
 ghost use Rattle.nearby.specs.Index.{rulesAt};
+ghost use Rattle.nearby.specs.Hull.{Single};
 ghost use Rattle.nearby.specs.Listing.{Ready, Listed, ListedAt, ShapeClear, Unreached};
 use crate::entry::Query;
+use crate::layout::AREA;
+use crate::layout::FULL;
 use crate::layout::RULES;
 use forbid::Region;
 use forbid::pair;
@@ -30,8 +33,10 @@ use region::Area;
 use region::COORDINATES;
 use words::Place;
 
-// How many words a caller lends for a list: the head, and 540 entries.
-pub const LIST: usize = 6357;
+// How many words a caller lends for a list: the head, and 540 entries; or 128, for a small sheet.
+pub const LIST: usize = 6365;
+
+pub const SMALL_LIST: usize = 1833;
 
 // The entries of a list, and whether it holds every one that can forbid a point of its area.
 pub struct Nearby {
@@ -41,7 +46,7 @@ pub struct Nearby {
 
 // Makes a list ready: its head says which boxes each shape has, which rules count, and the hull of each shape.
 pub fn prepare(block: &[i64], list: &mut [i64])
-    requires { ⌜ Block (lentOf (now block)) × (417 ≤ length (now list)) ⌝ }
+    requires { ⌜ Block (lentOf (now block)) × (425 ≤ length (now list)) ⌝ }
     ensures { λ _. ⌜ Ready (lentOf (now (block .entry))) (now (list .exit)) ⌝ }
 {
     index::index(block, list);
@@ -75,20 +80,59 @@ pub fn gather(
             whole: false,
         };
     }
-    let hull = hull::hull_at(list, s);
-    let q = Query { i, s, hull, area };
+    let low = area.low;
+    let high = area.high;
+    hull::put_four(list, AREA, low);
+    hull::put_four(list, AREA + 4, high);
+    let q = Query { i, s };
     let counted = words::set_at(list, RULES);
     let n = words::rules_of(block);
-    let mut found = Nearby {
-        count: 0,
-        whole: true,
-    };
+    let mut found = 0;
     let mut r = 0;
     while r < n {
         found = adding::add_rule(block, table, list, found, q, counted, r);
         r += 1;
     }
-    found
+    if found < FULL {
+        return Nearby {
+            count: found,
+            whole: true,
+        };
+    }
+    Nearby {
+        count: 0,
+        whole: false,
+    }
+}
+
+// What forbids p among the entries, where shape s has one box: the areas that they have.
+fn exact_region(
+    block: &[i64],
+    table: &[i64],
+    list: &[i64],
+    nearby: Nearby,
+    i: Place,
+    s: usize,
+    p: [i64; COORDINATES],
+) -> Region
+    requires { ⌜ Asked (lentOf (now block)) (now table) i p × Ready (lentOf (now block)) (now list)
+        × ListedAt (lentOf (now block)) (now table) (i .number) s (now list) nearby p × (nearby .whole ≡ true)
+        × Single (lentOf (now block)) s ⌝ }
+    ensures { λ x. ⌜ Forbids (axes (lentOf (now (block .entry))))
+        (forbidden (lentOf (now (block .entry))) (now (table .entry)) (i .number) s) p x ⌝ }
+{
+    let count = nearby.count;
+    let mut e = 0;
+    while e < count {
+        if entry::entry_holds(block, list, e, p) {
+            return Region {
+                hit: true,
+                area: entry::entry_area(list, e),
+            };
+        }
+        e += 1;
+    }
+    Region::none()
 }
 
 // What forbids p among the entries: one pair of boxes is enough.
@@ -167,6 +211,9 @@ pub fn region_at(
     if whole {
         if s >= 1 {
             if s <= 32 {
+                if index::is_single(block, list, s) {
+                    return exact_region(block, table, list, nearby, i, s, p);
+                }
                 return listed_region(block, table, list, nearby, i, s, p);
             }
         }
@@ -206,7 +253,7 @@ pub fn rule_counts(block: &[i64], list: &[i64], r: usize) -> bool
     words::bit_at(list, RULES, r)
 }
 
-// Whether row j can forbid row i some point of its ranges by rule r.
+// Whether row j can forbid row i some point of its ranges by rule r: no further than the last shape of row i's set.
 pub fn reaches_row(block: &[i64], table: &[i64], list: &[i64], r: Place, j: Place, i: Place) -> bool
     requires { ⌜ Block (lentOf (now block)) × Table (lentOf (now block)) (now table) × RulePlace (lentOf (now block)) r
         × RowPlace (lentOf (now block)) (now table) j × RowPlace (lentOf (now block)) (now table) i × Ready (lentOf (now block)) (now list) ⌝ }
@@ -221,9 +268,13 @@ pub fn reaches_row(block: &[i64], table: &[i64], list: &[i64], r: Place, j: Plac
     if own > 0 {
         return reaches_shape(block, table, list, r, j, t, i, own, area);
     }
-    let mut s = 1;
-    while s <= 32 {
-        if reaches_shape(block, table, list, r, j, t, i, s, area) {
+    let set = words::shapes_of(block, table, i);
+    let mut s = 0;
+    while s < 32 {
+        if words::is_below(set, s) {
+            return false;
+        }
+        if reaches_shape(block, table, list, r, j, t, i, s + 1, area) {
             return true;
         }
         s += 1;

@@ -5,14 +5,17 @@ ghost use lib.IntN.{pos, _+ℤ_, _-ℤ_};
 ghost use lib.Signed.{_≤ℤ_};
 ghost use Rattle.integers.specs.Integer.{Within};
 ghost use Rattle.integers.specs.Words.{word};
-ghost use Rattle.sheet.specs.Layout.{lentOf, dims, offset, size, low, high};
+ghost use mathlib.Core.Bool.{true};
+ghost use lib.IntN.{ℤ};
+ghost use Rattle.integers.specs.Integer.{within};
+ghost use Rattle.integers.specs.Below.{_⇒_};
+ghost use Rattle.sheet.specs.Layout.{lentOf, dims, offset, size, low, high, namesDim};
+ghost use Rattle.sheet.specs.Allowed.{forbidFrom, forbidTo};
 ghost use Rattle.sheet.specs.Accepted.{Block, Table};
 ghost use Rattle.words.specs.Places.{BoxPlace, RulePlace, RowPlace};
 ghost use Rattle.region.specs.Area.{reach};
-ghost use Rattle.nearby.specs.declared.hull.Hull.{Hull};
-ghost use Rattle.nearby.specs.Hull.{hullAt, Modest, InHull, Reaches};
+ghost use Rattle.nearby.specs.Hull.{Hull, hullAt, InHull, Reaches, Fills};
 ghost use Rattle.nearby.specs.Listing.{Ready};
-use crate::hull::Hull;
 use crate::layout::STARTS;
 use region::REACH;
 use words::Place;
@@ -60,7 +63,14 @@ fn side_by(
     ensures { λ x. ⌜ ((c : ℕ) (h : Hull) → start ≤ℤ offset (lentOf (now (block .entry))) c d
         → (offset (lentOf (now (block .entry))) c d +ℤ size (lentOf (now (block .entry))) c d) ≤ℤ end
         → first ≡ word (h .start) d → last ≡ word (h .end) d
-        → Reaches (lentOf (now (block .entry))) (now (table .entry)) (r .number) (j .number) c h d x) ⌝ }
+        → Reaches (lentOf (now (block .entry))) (now (table .entry)) (r .number) (j .number) c h d x)
+        × ((i b c : ℕ) (z : ℤ) → start ≡ offset (lentOf (now (block .entry))) c d
+        → end ≡ offset (lentOf (now (block .entry))) c d +ℤ size (lentOf (now (block .entry))) c d
+        → first ≡ offset (lentOf (now (block .entry))) b d
+        → last ≡ offset (lentOf (now (block .entry))) b d +ℤ size (lentOf (now (block .entry))) b d → within (x .from) (x .to) z ≡ true
+        → (namesDim (lentOf (now (block .entry))) (r .number) d
+        ⇒ within (forbidFrom (lentOf (now (block .entry))) (now (table .entry)) (r .number) i b (j .number) c d)
+        (forbidTo (lentOf (now (block .entry))) (now (table .entry)) (r .number) i b (j .number) c d) z) ≡ true) ⌝ }
 {
     if !words::names_dim(block, r, d) {
         return Side {
@@ -74,24 +84,29 @@ fn side_by(
     }
 }
 
-// What box c of row j can forbid to the hull in dimension d by rule r.
+// What box c of row j can forbid to shape s in dimension d by rule r, by the shape's hull in the head of the list.
 pub fn side_of(
     block: &[i64],
     table: &[i64],
+    list: &[i64],
     r: Place,
     j: Place,
     c: Place,
-    hull: Hull,
+    s: usize,
     d: usize,
 ) -> Side
     requires { ⌜ Block (lentOf (now block)) × Table (lentOf (now block)) (now table) × RulePlace (lentOf (now block)) r
-        × RowPlace (lentOf (now block)) (now table) j × BoxPlace (lentOf (now block)) c × (d < dims (lentOf (now block))) × Modest hull ⌝ }
-    ensures { λ x. ⌜ Reaches (lentOf (now (block .entry))) (now (table .entry)) (r .number) (j .number) (c .number) hull d x ⌝ }
+        × RowPlace (lentOf (now block)) (now table) j × BoxPlace (lentOf (now block)) c × Ready (lentOf (now block)) (now list)
+        × (1 ≤ s) × (s ≤ 32) × (d < dims (lentOf (now block))) ⌝ }
+    ensures { λ x. ⌜ Reaches (lentOf (now (block .entry))) (now (table .entry)) (r .number) (j .number) (c .number)
+        (hullAt (now (list .entry)) s) d x
+        × Fills (lentOf (now (block .entry))) (now (table .entry)) (r .number) (j .number) (c .number) (hullAt (now (list .entry)) s) d x ⌝ }
 {
+    let own = STARTS + 8 * s + d;
     let start = words::offset_of(block, c, d);
     let end = start + words::size_of(block, c, d);
-    let first = hull.start[d];
-    let last = hull.end[d];
+    let first = words::word_at(list, own);
+    let last = words::word_at(list, own + 4);
     side_by(block, table, r, j, start, end, first, last, d)
 }
 

@@ -2,3 +2,5 @@ pub mod Sums
 pub mod Areas
 pub mod Cut
 pub mod Contained
+pub mod Ends
+pub mod Fills

@@ -3,13 +3,13 @@
 use mathlib.Core.Path.{_≡_}
 use mathlib.Core.Bool.{Bool, cond, _&&_}
 use mathlib.Core.List.{List}
-use Prim.Native.Nat.{ℕ, _<_}
+use Prim.Native.Nat.{ℕ, _+_, _<_}
 use lib.IntN.{ℤ, pos}
 use lib.ListN.{replicate}
 use lib.Signed.{leZ}
 use Rattle.integers.specs.Integer.{minus, within, Within}
 use Rattle.integers.specs.Below.{allBelow}
-use Rattle.integers.specs.Words.{word}
+use Rattle.integers.specs.Words.{word, listBelow}
 use Rattle.region.specs.declared.Area.{Area}
 
 -- how many coordinates an array of a point holds; a sheet's points use the first k of them
@@ -52,3 +52,10 @@ pub record InField (k : ℕ) (p : List ℤ) : Type 0 where
 -- the area of those points
 unfoldable pub fieldArea : Area
 fieldArea = record { low = replicate coordinates (minus reach); high = replicate coordinates (pos reach) }
+
+-- an area as a run of words: its low point, then its high point
+abbrev pub areaWords : ℕ
+areaWords = 8
+
+unfoldable pub areaOf : List ℤ → Area
+areaOf words = record { low = listBelow coordinates (word words); high = listBelow coordinates (λ d. word words (coordinates + d)) }

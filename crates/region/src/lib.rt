@@ -3,13 +3,14 @@ mod rooms;
 
 ghost use mathlib.Core.Path.{_≡_};
 ghost use Prim.Native.Nat.{ℕ, _<_, _≤_};
+ghost use lib.ListN.{length};
 ghost use Rattle.integers.specs.Integer.{within, Within};
 ghost use Rattle.integers.specs.Words.{word};
 ghost use Rattle.sheet.specs.Layout.{lentOf, axes};
 ghost use Rattle.sheet.specs.Allowed.{inRanges};
 ghost use Rattle.sheet.specs.Accepted.{Block, Table};
 ghost use Rattle.words.specs.Places.{RowPlace};
-ghost use Rattle.region.specs.Area.{coordinates, reach, maxZ, minZ, inArea, Cuts, fieldArea};
+ghost use Rattle.region.specs.Area.{coordinates, reach, maxZ, minZ, areaWords, inArea, Cuts, fieldArea, areaOf};
 ghost use Rattle.region.specs.Rooms.{CutBox};
 use words::Place;
 
@@ -76,34 +77,55 @@ impl Area {
     }
 }
 
-// ---- the cut box
+// ---- an area as a run of words: its low point, then its high point
 
-// Row i's ranges.
+const AREA_WORDS: usize = 8;
+
+// The area that such a run is.
+fn area_of(ends: &[i64]) -> Area
+    requires { ⌜ length (now ends) ≡ areaWords ⌝ }
+    ensures { λ x. ⌜ x ≡ areaOf (now (ends .entry)) ⌝ }
+{
+    let low = [ends[0], ends[1], ends[2], ends[3]];
+    let high = [ends[4], ends[5], ends[6], ends[7]];
+    Area { low, high }
+}
+
+// Row i's ranges, as such a run and as an area.
+fn range_ends(block: &[i64], table: &[i64], i: Place) -> [i64; AREA_WORDS]
+    requires { ⌜ Block (lentOf (now block)) × Table (lentOf (now block)) (now table) × RowPlace (lentOf (now block)) (now table) i ⌝ }
+    ensures { λ x. ⌜ Cuts (axes (lentOf (now (block .entry)))) fieldArea (areaOf x)
+        (inRanges (lentOf (now (block .entry))) (now (table .entry)) (i .number)) ⌝ }
+{
+    let k = words::axes_of(block);
+    let mut ends = [-REACH, -REACH, -REACH, -REACH, REACH, REACH, REACH, REACH];
+    let mut d = 0;
+    while d < k {
+        ends[d] = words::low_of(block, table, i, d);
+        ends[COORDINATES + d] = words::high_of(block, table, i, d);
+        d += 1;
+    }
+    ends
+}
+
 pub fn row_area(block: &[i64], table: &[i64], i: Place) -> Area
     requires { ⌜ Block (lentOf (now block)) × Table (lentOf (now block)) (now table) × RowPlace (lentOf (now block)) (now table) i ⌝ }
     ensures { λ x. ⌜ Cuts (axes (lentOf (now (block .entry)))) fieldArea x
         (inRanges (lentOf (now (block .entry))) (now (table .entry)) (i .number)) ⌝ }
 {
-    let k = words::axes_of(block);
-    let mut area = Area::field();
-    let mut d = 0;
-    while d < k {
-        area = area.within(
-            d,
-            words::low_of(block, table, i, d),
-            words::high_of(block, table, i, d),
-        );
-        d += 1;
-    }
-    area
+    let ends = range_ends(block, table, i);
+    area_of(&ends)
 }
+
+// ---- the cut box
 
 // The points of row i's ranges at which every room rule holds for shape s. There are none where its low point is not in it.
 pub fn cut_box(block: &[i64], table: &[i64], i: Place, s: usize) -> Area
     requires { ⌜ Block (lentOf (now block)) × Table (lentOf (now block)) (now table) × RowPlace (lentOf (now block)) (now table) i ⌝ }
     ensures { λ x. ⌜ CutBox (lentOf (now (block .entry))) (now (table .entry)) (i .number) s x ⌝ }
 {
-    let area = row_area(block, table, i);
+    let mut ends = range_ends(block, table, i);
     let row = i.number;
-    rooms::cut_by_rooms(area, block, row, s)
+    rooms::cut_by_rooms(&mut ends, block, row, s);
+    area_of(&ends)
 }

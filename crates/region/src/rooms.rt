@@ -1,15 +1,19 @@
-// The room rules of a row, as cuts of an area. This is the one place that knows rules of kind 2.
+// The room rules of a row, as cuts of an area in place: `ends` holds its low point, then its high point.
+// This is the one place that knows rules of kind 2.
 ghost use mathlib.Core.Path.{_≡_};
 ghost use mathlib.Core.Bool.{_&&_};
 ghost use Prim.Native.Nat.{_<_, _≤_};
+ghost use lib.ListN.{length};
 ghost use Rattle.integers.specs.Integer.{Within};
 ghost use Rattle.sheet.specs.Layout.{lentOf, dims, axes, boxes, rules, isContainment, namesRow};
 ghost use Rattle.sheet.specs.Allowed.{boxContained, roomsHold};
 ghost use Rattle.sheet.specs.Accepted.{Block};
 ghost use Rattle.words.specs.Places.{BoxPlace, RulePlace};
-ghost use Rattle.region.specs.Area.{reach, Cuts};
+ghost use Rattle.region.specs.Area.{reach, areaWords, Cuts, areaOf};
 ghost use Rattle.region.specs.Rooms.{roomFrom, roomTo, sideContained, boxHolds, shapeContained, roomHolds};
-use crate::Area;
+use crate::COORDINATES;
+use crate::larger;
+use crate::lesser;
 use words::Place;
 
 // The first and the last number at which box b lies in rule r's room in dimension d.
@@ -30,61 +34,60 @@ fn room_to(block: &[i64], r: Place, b: Place, d: usize) -> i64
 }
 
 // Cut to the points at which box b lies in rule r's room in dimension d, if the rule names d.
-fn cut_by_side(area: Area, block: &[i64], r: Place, b: Place, d: usize) -> Area
+fn cut_by_side(ends: &mut [i64], block: &[i64], r: Place, b: Place, d: usize)
     requires { ⌜ Block (lentOf (now block)) × RulePlace (lentOf (now block)) r × BoxPlace (lentOf (now block)) b
-        × (d < dims (lentOf (now block))) ⌝ }
-    ensures { λ x. ⌜ Cuts (axes (lentOf (now (block .entry)))) area x
+        × (d < dims (lentOf (now block))) × (length (now ends) ≡ areaWords) ⌝ }
+    ensures { λ _. ⌜ Cuts (axes (lentOf (now (block .entry)))) (areaOf (now (ends .entry))) (areaOf (now (ends .exit)))
         (sideContained (lentOf (now (block .entry))) (r .number) (b .number) d) ⌝ }
 {
     if words::names_dim(block, r, d) {
-        return area.within(d, room_from(block, r, b, d), room_to(block, r, b, d));
+        let low = room_from(block, r, b, d);
+        let high = room_to(block, r, b, d);
+        ends[d] = larger(ends[d], low);
+        ends[COORDINATES + d] = lesser(ends[COORDINATES + d], high);
     }
-    area
 }
 
 // The same in every dimension.
-fn cut_by_box(area: Area, block: &[i64], r: Place, b: Place) -> Area
-    requires { ⌜ Block (lentOf (now block)) × RulePlace (lentOf (now block)) r × BoxPlace (lentOf (now block)) b ⌝ }
-    ensures { λ x. ⌜ Cuts (axes (lentOf (now (block .entry)))) area x
+fn cut_by_box(ends: &mut [i64], block: &[i64], r: Place, b: Place)
+    requires { ⌜ Block (lentOf (now block)) × RulePlace (lentOf (now block)) r × BoxPlace (lentOf (now block)) b
+        × (length (now ends) ≡ areaWords) ⌝ }
+    ensures { λ _. ⌜ Cuts (axes (lentOf (now (block .entry)))) (areaOf (now (ends .entry))) (areaOf (now (ends .exit)))
         (boxContained (lentOf (now (block .entry))) (r .number) (b .number)) ⌝ }
 {
     let k = words::dims_of(block);
-    let mut cut = area;
     let mut d = 0;
     while d < k {
-        cut = cut_by_side(cut, block, r, b, d);
+        cut_by_side(ends, block, r, b, d);
         d += 1;
     }
-    cut
 }
 
 // The same, if box b is one of shape s.
-fn cut_by_box_of(area: Area, block: &[i64], r: Place, s: usize, b: usize) -> Area
-    requires { ⌜ Block (lentOf (now block)) × RulePlace (lentOf (now block)) r × (b < boxes (lentOf (now block))) ⌝ }
-    ensures { λ x. ⌜ Cuts (axes (lentOf (now (block .entry)))) area x
+fn cut_by_box_of(ends: &mut [i64], block: &[i64], r: Place, s: usize, b: usize)
+    requires { ⌜ Block (lentOf (now block)) × RulePlace (lentOf (now block)) r × (b < boxes (lentOf (now block)))
+        × (length (now ends) ≡ areaWords) ⌝ }
+    ensures { λ _. ⌜ Cuts (axes (lentOf (now (block .entry)))) (areaOf (now (ends .entry))) (areaOf (now (ends .exit)))
         (boxHolds (lentOf (now (block .entry))) (r .number) s b) ⌝ }
 {
     let own = words::box_place(block, b);
     if words::box_is(block, own, s) {
-        return cut_by_box(area, block, r, own);
+        cut_by_box(ends, block, r, own);
     }
-    area
 }
 
 // The same for every box of shape s.
-fn cut_by_shape(area: Area, block: &[i64], r: Place, s: usize) -> Area
-    requires { ⌜ Block (lentOf (now block)) × RulePlace (lentOf (now block)) r ⌝ }
-    ensures { λ x. ⌜ Cuts (axes (lentOf (now (block .entry)))) area x
+fn cut_by_shape(ends: &mut [i64], block: &[i64], r: Place, s: usize)
+    requires { ⌜ Block (lentOf (now block)) × RulePlace (lentOf (now block)) r × (length (now ends) ≡ areaWords) ⌝ }
+    ensures { λ _. ⌜ Cuts (axes (lentOf (now (block .entry)))) (areaOf (now (ends .entry))) (areaOf (now (ends .exit)))
         (shapeContained (lentOf (now (block .entry))) (r .number) s) ⌝ }
 {
     let n = words::boxes_of(block);
-    let mut cut = area;
     let mut b = 0;
     while b < n {
-        cut = cut_by_box_of(cut, block, r, s, b);
+        cut_by_box_of(ends, block, r, s, b);
         b += 1;
     }
-    cut
 }
 
 // Whether rule r keeps row i in a room.
@@ -100,28 +103,28 @@ fn is_room_of(block: &[i64], r: Place, i: usize) -> bool
 }
 
 // The same as for a shape, if rule r keeps row i in a room.
-fn cut_by_rule(area: Area, block: &[i64], i: usize, s: usize, r: usize) -> Area
-    requires { ⌜ Block (lentOf (now block)) × (1 ≤ i) × (i ≤ 32) × (r < rules (lentOf (now block))) ⌝ }
-    ensures { λ x. ⌜ Cuts (axes (lentOf (now (block .entry)))) area x (roomHolds (lentOf (now (block .entry))) i s r) ⌝ }
+fn cut_by_rule(ends: &mut [i64], block: &[i64], i: usize, s: usize, r: usize)
+    requires { ⌜ Block (lentOf (now block)) × (1 ≤ i) × (i ≤ 32) × (r < rules (lentOf (now block)))
+        × (length (now ends) ≡ areaWords) ⌝ }
+    ensures { λ _. ⌜ Cuts (axes (lentOf (now (block .entry)))) (areaOf (now (ends .entry))) (areaOf (now (ends .exit)))
+        (roomHolds (lentOf (now (block .entry))) i s r) ⌝ }
 {
     let rule = words::rule_place(block, r);
     if is_room_of(block, rule, i) {
-        return cut_by_shape(area, block, rule, s);
+        cut_by_shape(ends, block, rule, s);
     }
-    area
 }
 
 // The same for every rule.
-pub fn cut_by_rooms(area: Area, block: &[i64], i: usize, s: usize) -> Area
-    requires { ⌜ Block (lentOf (now block)) × (1 ≤ i) × (i ≤ 32) ⌝ }
-    ensures { λ x. ⌜ Cuts (axes (lentOf (now (block .entry)))) area x (roomsHold (lentOf (now (block .entry))) i s) ⌝ }
+pub fn cut_by_rooms(ends: &mut [i64], block: &[i64], i: usize, s: usize)
+    requires { ⌜ Block (lentOf (now block)) × (1 ≤ i) × (i ≤ 32) × (length (now ends) ≡ areaWords) ⌝ }
+    ensures { λ _. ⌜ Cuts (axes (lentOf (now (block .entry)))) (areaOf (now (ends .entry))) (areaOf (now (ends .exit)))
+        (roomsHold (lentOf (now (block .entry))) i s) ⌝ }
 {
     let n = words::rules_of(block);
-    let mut cut = area;
     let mut r = 0;
     while r < n {
-        cut = cut_by_rule(cut, block, i, s, r);
+        cut_by_rule(ends, block, i, s, r);
         r += 1;
     }
-    cut
 }

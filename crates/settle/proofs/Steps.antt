@@ -1,4 +1,4 @@
--- One turn of the settling loop: what the answer of narrowing a row leaves of the way and of the flags. Assumes nothing.
+-- One turn of the settling loop: what the answer of narrowing a row leaves of the way and of the rows to narrow. Assumes nothing.
 use mathlib.Core.Path.{_≡_, refl, sym, ap, _∙_, subst}
 use mathlib.Core.Bool.{Bool, true, false, cond}
 use mathlib.Core.List.{List, [], _∷_}
@@ -6,12 +6,12 @@ use mathlib.Core.Option.{Option, none, some}
 use Prim.Native.Nat.{ℕ, zero, suc, _+_, _≤_, _<_}
 use native.Mathlib.Numerals.{add-one}
 use native.Mathlib.Omega.{arith}
-use lib.IntN.{ℤ}
-use lib.ListN.{getD, set}
-use lib.Seq.{getD-set-other}
+use lib.IntN.{ℤ, pos}
+use lib.ListN.{set}
 use Rattle.integers.specs.Below.{valueOr}
-use Rattle.integers.specs.Words.{sameWords}
+use Rattle.integers.specs.Words.{word, sameWords}
 use Rattle.integers.proofs.Booleans.{clash}
+use Rattle.integers.proofs.Ints.{ints}
 use Rattle.integers.proofs.Lists.{same-eq, same-refl}
 use Rattle.sheet.specs.Layout.{Lent, axes, rules, rows}
 use Rattle.sheet.specs.Narrow.{narrowOf}
@@ -21,8 +21,8 @@ use Rattle.sheet.proofs.Demand3.{Good, narrow}
 use Rattle.narrow.specs.Steps.{stepAnswer}
 use Rattle.narrow.specs.declared.Step.{Step}
 use Rattle.narrow.specs.declared.Step.the-variants.{NoPlace, Still, Moved}
-use Rattle.settle.specs.declared.Flags.{Flags}
 use Rattle.settle.specs.Todo.{todo, Touched, Spared, OnTheWay, toGo}
+use Rattle.settle.proofs.Turns.{todo-no, todo-other}
 use Rattle.settle.proofs.Worked.{worked-none, worked-still, worked-good, worked-moved, worked-falls, less-rows, less-extent}
 
 -- ---- the answer
@@ -57,40 +57,38 @@ left-still : (t w : List ℤ) {o : Option (List ℤ)} → o ≡ some t → w ≡
 unfolding valueOr
 left-still t w e h = h ∙ ap (valueOr t) e
 
--- ---- a flag cleared
-abbrev pub cleared : Flags → ℕ → Flags
-cleared flags i = record { rows = set (flags .rows) i false }
+-- ---- a row that is not to be narrowed any more
+abbrev pub cleared : List ℤ → ℕ → List ℤ
+cleared due i = set due i (pos 0)
 
-set-false : (xs : List Bool) (i : ℕ) → getD (set xs i false) i false ≡ false
-set-false [] i = refl
-set-false (x ∷ xs) zero = refl
-set-false (x ∷ xs) (suc i) = set-false xs i
+word-cleared : (due : List ℤ) (i : ℕ) → word (cleared due i) i ≡ pos 1 → ⊥
+word-cleared [] i e = omega ints
+word-cleared (x ∷ xs) zero e = omega ints
+word-cleared (x ∷ xs) (suc i) e = word-cleared xs i e
 
-cleared-at : (flags : Flags) (i : ℕ) → todo (cleared flags i) i ≡ false
-unfolding todo
-cleared-at flags i = set-false (flags .rows) i
+cleared-at : (due : List ℤ) (i : ℕ) → todo (cleared due i) i ≡ false
+cleared-at due i = todo-no (cleared due i) i (word-cleared due i)
 
-cleared-other : {flags more : Flags} (i m : ℕ) → more ≡ flags → (m ≡ i → ⊥) → todo (cleared more i) m ≡ todo flags m
-unfolding todo
-cleared-other {more = more} i m q ne = getD-set-other (more .rows) i m false false ne ∙ ap (λ (f : Flags). todo f m) q
+cleared-other : {due more : List ℤ} (i m : ℕ) → more ≡ due → (m ≡ i → ⊥) → todo (cleared more i) m ≡ todo due m
+cleared-other {more = more} i m q ne = todo-other more i m (pos 0) ne ∙ ap (λ (l : List ℤ). todo l m) q
 
 -- ---- one turn: a row, number i + 1, was narrowed in v; its answer is r, and the table left w
-pub record Turn (lent : Lent) (t v w : List ℤ) (flags : Flags) (i row : ℕ) (r : Step) : Type 0 where
+pub record Turn (lent : Lent) (t v w due : List ℤ) (i row : ℕ) (r : Step) : Type 0 where
   pub dims : 0 < axes lent
-  pub way : OnTheWay lent t v flags
+  pub way : OnTheWay lent t v due
   pub below : i < rows lent t
   pub few : rows lent t ≤ 32
   pub number : row ≡ i + 1
   pub told : r ≡ stepAnswer v (narrowOf lent v row)
   pub left : w ≡ valueOr v (narrowOf lent v row)
 
-module _ {lent : Lent} {t v w : List ℤ} {flags : Flags} {i row : ℕ} {r : Step} (x : Turn lent t v w flags i row r) where
+module _ {lent : Lent} {t v w due : List ℤ} {i row : ℕ} {r : Step} (x : Turn lent t v w due i row r) where
   found : narrowOf lent v row ≡ narrow lent i v
   found = ap (narrowOf lent v) (x .number ∙ add-one i)
 
   pub turn-none : r ≡ NoPlace → settleOf lent t ≡ none
   turn-none e =
-      worked-none lent (x .dims) t v flags (x .way) i (x .below) (sym found ∙ answer-none v (narrowOf lent v row) (sym e ∙ x .told))
+      worked-none lent (x .dims) t v due (x .way) i (x .below) (sym found ∙ answer-none v (narrowOf lent v row) (sym e ∙ x .told))
 
   -- nothing moved
   module _ (e : r ≡ Still) where
@@ -100,16 +98,16 @@ module _ {lent : Lent} {t v w : List ℤ} {flags : Flags} {i row : ℕ} {r : Ste
     same : v ≡ w
     same = sym (left-still v w stood (x .left))
 
-    module _ {more : Flags} (q : more ≡ flags) where
+    module _ {more : List ℤ} (q : more ≡ due) where
       pub turn-still : OnTheWay lent t w (cleared more i)
       turn-still =
           subst (λ (u : List ℤ). OnTheWay lent t u (cleared more i)) same
-          (worked-still lent (x .dims) t v flags (x .way) i (x .below) (cleared more i) (sym found ∙ stood) (λ m ne. cleared-other i m q ne))
+          (worked-still lent (x .dims) t v due (x .way) i (x .below) (cleared more i) (sym found ∙ stood) (λ m ne. cleared-other i m q ne))
 
-      pub still-less : todo flags i ≡ true → toGo lent (rows lent t) w (cleared more i) < toGo lent (rows lent t) v flags
+      pub still-less : todo due i ≡ true → toGo lent (rows lent t) w (cleared more i) < toGo lent (rows lent t) v due
       still-less set =
-          subst (λ (u : List ℤ). toGo lent (rows lent t) u (cleared more i) < toGo lent (rows lent t) v flags) same
-          (less-rows lent (rows lent t) (x .few) v flags (cleared more i) i (x .below) set (cleared-at more i) (λ m ne. cleared-other i m q ne))
+          subst (λ (u : List ℤ). toGo lent (rows lent t) u (cleared more i) < toGo lent (rows lent t) v due) same
+          (less-rows lent (rows lent t) (x .few) v due (cleared more i) i (x .below) set (cleared-at more i) (λ m ne. cleared-other i m q ne))
 
   -- a word moved
   module _ (e : r ≡ Moved) where
@@ -117,12 +115,12 @@ module _ {lent : Lent} {t v w : List ℤ} {flags : Flags} {i row : ℕ} {r : Ste
     moved = answer-moved v w (narrowOf lent v row) (sym e ∙ x .told) (x .left)
 
     pub turn-good : Good lent t w
-    turn-good = worked-good lent (x .dims) t v flags (x .way) i (x .below) w (sym found ∙ moved .0)
+    turn-good = worked-good lent (x .dims) t v due (x .way) i (x .below) w (sym found ∙ moved .0)
 
-    pub turn-moved : {n : ℕ} {set more : Flags} → more ≡ set → n ≡ rows lent t
-        → Touched n flags (λ m. (q : ℕ) → q < rules lent → Spared lent w row q m) set → OnTheWay lent t w (cleared more i)
+    pub turn-moved : {n : ℕ} {set more : List ℤ} → more ≡ set → n ≡ rows lent t
+        → Touched n due (λ m. (q : ℕ) → q < rules lent → Spared lent w row q m) set → OnTheWay lent t w (cleared more i)
     turn-moved {more = more} q k y =
-        worked-moved lent (x .dims) t v flags (x .way) i (x .below) w (sym found ∙ moved .0) (cleared more i)
+        worked-moved lent (x .dims) t v due (x .way) i (x .below) w (sym found ∙ moved .0) (cleared more i)
         (λ m h ne c. let a = y .left m (omega (arith, h, k)) (sym (cleared-other i m q ne) ∙ c) in (a .0, clear-by m (a .1)))
       where
         clear-by : (m : ℕ) → ((q : ℕ) → q < rules lent → Spared lent w row q m) → Clear lent w (suc i) (suc m)
@@ -130,7 +128,7 @@ module _ {lent : Lent} {t v w : List ℤ} {flags : Flags} {i row : ℕ} {r : Ste
             subst (λ (j : ℕ). Clear lent w j (suc m)) (x .number ∙ add-one i)
             (record { clear = λ q s p l kind names-i names held ranged. spared q l kind names-i names .clear s p held ranged })
 
-    pub moved-less : (more : Flags) → toGo lent (rows lent t) w more < toGo lent (rows lent t) v flags
+    pub moved-less : (more : List ℤ) → toGo lent (rows lent t) w more < toGo lent (rows lent t) v due
     moved-less more =
-        less-extent lent (rows lent t) (x .few) v w flags more
-        (worked-falls lent (x .dims) t v flags (x .way) i (x .below) w (sym found ∙ moved .0) (moved .1))
+        less-extent lent (rows lent t) (x .few) v w due more
+        (worked-falls lent (x .dims) t v due (x .way) i (x .below) w (sym found ∙ moved .0) (moved .1))

@@ -1,7 +1,8 @@
--- Counting around n, and setting flags one by one: what the small loops of settling need. Assumes nothing.
+-- Counting around n, and the words that say which rows are to be narrowed, set one by one: what the small loops of settling need.
+-- Assumes nothing.
 use mathlib.Core.Path.{_≡_, refl, sym, ap, _∙_, subst, subst⁻¹}
 use mathlib.Core.Logic.{_⊎_, inl, inr, ⊎-elim}
-use mathlib.Core.Bool.{Bool, true, false}
+use mathlib.Core.Bool.{true, false}
 use mathlib.Core.List.{List, [], _∷_, _++_}
 use Prim.Native.Nat.{ℕ, _+_, _-_, _^_, _≤_, _<_}
 use native.Mathlib.Omega.{arith}
@@ -11,12 +12,14 @@ use lib.Signed.{mag}
 use mir.Syntax.{w64}
 use mir.Val.{toZ, ofZ}
 use mir.Facts.{toZ-ofZ}
-use Rattle.integers.proofs.Machine.{fits-word}
+use Rattle.integers.specs.Integer.{eqZ}
+use Rattle.integers.specs.Words.{word}
+use Rattle.integers.proofs.Ints.{eqZ-eq, eq-eqZ}
+use Rattle.integers.proofs.Machine.{fits-word, bits-lit, bits-not-lit}
 use lib.ListN.{length, getD, set, take}
 use lib.Seq.{getD-set-same, getD-set-other, take-suc, take-suc-set}
-use Rattle.integers.proofs.Booleans.{clash}
+use Rattle.integers.proofs.Booleans.{clash, fails}
 use Rattle.integers.proofs.Below.{below-or, last-or}
-use Rattle.settle.specs.declared.Flags.{Flags}
 use Rattle.settle.specs.Todo.{todo, Touched}
 
 -- m is a, taken around n
@@ -42,35 +45,54 @@ take-set to from at e h q m =
     (take-suc-set to at (getD from at (pos 0)) h ∙ ap (λ (l : List ℤ). l ++ (getD from at (pos 0) ∷ [])) q
     ∙ sym (take-suc from at (pos 0) (omega arith)))
 
--- a flag below m that is not set was not set before, and its row is spared; the others are as they were
-pub record Setting (flags : Flags) (spared : ℕ → Type 0) (m : ℕ) (more : Flags) : Type 0 where
-  pub below : (q : ℕ) → q < m → todo more q ≡ false → (todo flags q ≡ false) × spared q
-  pub above : (q : ℕ) → m ≤ q → todo more q ≡ todo flags q
+-- ---- whether a row is to be narrowed
+module _ (due : List ℤ) (m : ℕ) where
+  pub todo-yes : word due m ≡ pos 1 → todo due m ≡ true
+  unfolding todo
+  todo-yes e = eq-eqZ e
 
-pub setting-start : {flags : Flags} {spared : ℕ → Type 0} → Setting flags spared 0 flags
+  pub todo-no : (word due m ≡ pos 1 → ⊥) → todo due m ≡ false
+  unfolding todo
+  todo-no f = fails (λ e. f (eqZ-eq e))
+
+  -- as the code tests it
+  pub todo-taken : mag (word due m) < 2 ^ 63 → ofZ w64 (word due m) ≡ 1 → todo due m ≡ true
+  todo-taken given e = todo-yes (bits-lit (fits-word (word due m) given) e tt)
+
+  pub todo-left : (ofZ w64 (word due m) ≡ 1 → ⊥) → todo due m ≡ false
+  todo-left f = todo-no (bits-not-lit f)
+
+-- with the word of row i + 1 written
+pub todo-other : (due : List ℤ) (i m : ℕ) (z : ℤ) → (m ≡ i → ⊥) → todo (set due i z) m ≡ todo due m
+unfolding todo
+todo-other due i m z ne = ap (λ (x : ℤ). eqZ x (pos 1)) (getD-set-other due i m z (pos 0) ne)
+
+-- a row below m that is not to be narrowed was not before, and is spared; the others are as they were
+pub record Setting (due : List ℤ) (spared : ℕ → Type 0) (m : ℕ) (more : List ℤ) : Type 0 where
+  pub below : (q : ℕ) → q < m → todo more q ≡ false → (todo due q ≡ false) × spared q
+  pub above : (q : ℕ) → m ≤ q → todo more q ≡ todo due q
+
+pub setting-start : {due : List ℤ} {spared : ℕ → Type 0} → Setting due spared 0 due
 setting-start = record { below = λ q h. absurd (omega arith); above = λ q h. refl }
 
-module _ {flags : Flags} {spared : ℕ → Type 0} {m : ℕ} {more : Flags} (x : Setting flags spared m more) where
-  -- flag m is set already
-  pub setting-on : todo more m ≡ true → Setting flags spared (m + 1) more
-  setting-on e = record {
+module _ {due : List ℤ} {spared : ℕ → Type 0} {m : ℕ} {more : List ℤ} (x : Setting due spared m more) where
+  -- word m stays: where row m + 1 is not to be narrowed, it is spared
+  pub setting-stay : (todo more m ≡ false → spared m) → Setting due spared (m + 1) more
+  setting-stay spare = record {
     below = λ q h c. ⊎-elim
-        (λ p. clash (ap (todo more) p ∙ e) c)
+        (λ p. subst⁻¹ (λ (k : ℕ). (todo due k ≡ false) × spared k) p
+        (let here = ap (todo more) (sym p) ∙ c in (sym (x .above m (omega arith)) ∙ here, spare here)))
         (λ l. x .below q l c) (last-or (subst (λ (k : ℕ). q < k) (add-one m) h));
     above = λ q h. x .above q (omega arith);
   }
 
-  -- flag m is put; where it is not set, row m + 1 is spared
-  pub setting-put : {b : Bool} → todo more m ≡ false → (b ≡ false → spared m) → m < length (more .rows)
-      → Setting flags spared (m + 1) (record { rows = set (more .rows) m b })
-  unfolding todo
-  setting-put {b} e spare l = record {
+  -- word m is set
+  pub setting-put : m < length more → Setting due spared (m + 1) (set more m (pos 1))
+  setting-put l = record {
     below = λ q h c. ⊎-elim
-        (λ p.
-        let here = sym (getD-set-same (more .rows) m b false l) ∙ ap (λ (k : ℕ). getD (set (more .rows) m b) k false) (sym p) ∙ c in
-        subst⁻¹ (λ (k : ℕ). (todo flags k ≡ false) × spared k) p (sym (x .above m (omega arith)) ∙ e, spare here))
-        (λ k. x .below q k (sym (getD-set-other (more .rows) m q b false (less k)) ∙ c)) (last-or (subst (λ (k : ℕ). q < k) (add-one m) h));
-    above = λ q h. getD-set-other (more .rows) m q b false (later h) ∙ x .above q (omega arith);
+        (λ p. clash (ap (todo (set more m (pos 1))) p ∙ todo-yes (set more m (pos 1)) m (getD-set-same more m (pos 1) (pos 0) l)) c)
+        (λ k. x .below q k (sym (todo-other more m q (pos 1) (less k)) ∙ c)) (last-or (subst (λ (k : ℕ). q < k) (add-one m) h));
+    above = λ q h. todo-other more m q (pos 1) (later h) ∙ x .above q (omega arith);
   }
     where
       less : {q : ℕ} → q < m → q ≡ m → ⊥
@@ -79,21 +101,21 @@ module _ {flags : Flags} {spared : ℕ → Type 0} {m : ℕ} {more : Flags} (x :
       later : {q : ℕ} → m + 1 ≤ q → q ≡ m → ⊥
       later h e = omega arith
 
-  pub setting-done : {n : ℕ} → n ≤ m → Touched n flags spared more
+  pub setting-done : {n : ℕ} → n ≤ m → Touched n due spared more
   setting-done h = record { left = λ q l c. x .below q (omega arith) c }
 
--- every row is spared: the flags stay as they are
-pub untouched : {n : ℕ} {flags : Flags} {spared : ℕ → Type 0} → ((m : ℕ) → m < n → spared m) → Touched n flags spared flags
+-- every row is spared: the words stay as they are
+pub untouched : {n : ℕ} {due : List ℤ} {spared : ℕ → Type 0} → ((m : ℕ) → m < n → spared m) → Touched n due spared due
 untouched h = record { left = λ m l c. (c, h m l) }
 
 -- what follows of a row that is spared
-pub touched-so : {n : ℕ} {flags more : Flags} {spared spared' : ℕ → Type 0} → Touched n flags spared more
-    → ((m : ℕ) → m < n → spared m → spared' m) → Touched n flags spared' more
+pub touched-so : {n : ℕ} {due more : List ℤ} {spared spared' : ℕ → Type 0} → Touched n due spared more
+    → ((m : ℕ) → m < n → spared m → spared' m) → Touched n due spared' more
 touched-so x f = record { left = λ m l c. let w = x .left m l c in (w .0, f m l (w .1)) }
 
 -- one rule after the others
-pub touched-next : {n r : ℕ} {flags more most : Flags} {spared : ℕ → ℕ → Type 0} → Touched n flags (λ m. (q : ℕ) → q < r → spared q m) more
-    → Touched n more (spared r) most → Touched n flags (λ m. (q : ℕ) → q < r + 1 → spared q m) most
+pub touched-next : {n r : ℕ} {due more most : List ℤ} {spared : ℕ → ℕ → Type 0} → Touched n due (λ m. (q : ℕ) → q < r → spared q m) more
+    → Touched n more (spared r) most → Touched n due (λ m. (q : ℕ) → q < r + 1 → spared q m) most
 touched-next {r = r} {spared = spared} x y =
     record {
       left = λ m l c.

@@ -19,7 +19,6 @@ use Rattle.sheet.specs.Settle.{extent, settleOf}
 use Rattle.sheet.proofs.Accepted.{rows-same}
 use Rattle.sheet.proofs.Local.{Clear, narrow-again, narrow-clear}
 use Rattle.sheet.proofs.Demand3.{Good, narrow, laws}
-use Rattle.settle.specs.declared.Flags.{Flags}
 use Rattle.settle.specs.Todo.{todo, OnTheWay, toGo}
 
 module _ (lent : Lent) (dims : 0 < axes lent) (t : List ℤ) where
@@ -30,12 +29,12 @@ module _ (lent : Lent) (dims : 0 < axes lent) (t : List ℤ) where
   row-of {v} m g h = subst (λ (k : ℕ). m < k) (sym (rows-same lent v t (g .as-long))) h
 
   -- ---- the loop
-  pub worked-start : (flags : Flags) → Good lent t t → ((m : ℕ) → m < n → todo flags m ≡ true) → OnTheWay lent t t flags
-  worked-start flags g h = record { way = way-start (laws lent dims t) g; marks = marks-all h }
+  pub worked-start : (due : List ℤ) → Good lent t t → ((m : ℕ) → m < n → todo due m ≡ true) → OnTheWay lent t t due
+  worked-start due g h = record { way = way-start (laws lent dims t) g; marks = marks-all h }
 
-  module _ (v : List ℤ) (flags : Flags) (x : OnTheWay lent t v flags) where
+  module _ (v due : List ℤ) (x : OnTheWay lent t v due) where
     -- no row is left to narrow
-    pub worked-end : ((m : ℕ) → m < n → todo flags m ≡ false) → settleOf lent t ≡ some v
+    pub worked-end : ((m : ℕ) → m < n → todo due m ≡ false) → settleOf lent t ≡ some v
     unfolding settleOf
     worked-end h = marks-settled (laws lent dims t) (x .way) (x .marks) h
 
@@ -45,24 +44,24 @@ module _ (lent : Lent) (dims : 0 < axes lent) (t : List ℤ) where
       worked-none e = settles-none (laws lent dims t) li (x .way) e
 
       -- nothing moved
-      pub worked-still : (flags' : Flags) → narrow lent i v ≡ some v
-          → ((m : ℕ) → (m ≡ i → ⊥) → todo flags' m ≡ todo flags m) → OnTheWay lent t v flags'
-      worked-still flags' e same = record { way = x .way; marks = marks-still (x .marks) e (λ j lt ne c. sym (same j ne) ∙ c) }
+      pub worked-still : (due' : List ℤ) → narrow lent i v ≡ some v
+          → ((m : ℕ) → (m ≡ i → ⊥) → todo due' m ≡ todo due m) → OnTheWay lent t v due'
+      worked-still due' e same = record { way = x .way; marks = marks-still (x .marks) e (λ j lt ne c. sym (same j ne) ∙ c) }
 
       -- something moved: a row need not be narrowed again if row i forbids it nothing
       module _ (w : List ℤ) (e : narrow lent i v ≡ some w) where
         pub worked-good : Good lent t w
         worked-good = laws lent dims t .good li (x .way .good) e
 
-        stays : (j : ℕ) → j < n → (j ≡ i → ⊥) → todo flags j ≡ false → Clear lent w (suc i) (suc j) → narrow lent j w ≡ some w
+        stays : (j : ℕ) → j < n → (j ≡ i → ⊥) → todo due j ≡ false → Clear lent w (suc i) (suc j) → narrow lent j w ≡ some w
         stays j lj ne c clear =
             narrow-clear lent v w (x .way .good .table) (worked-good .table) (suc i) (omega arith) (row-of i (x .way .good) li) e
             (suc j) (omega arith) (row-of j (x .way .good) lj) (λ z. ne (omega arith)) clear (x .marks .clean j lj c)
 
-        pub worked-moved : (flags' : Flags)
-            → ((m : ℕ) → m < n → (m ≡ i → ⊥) → todo flags' m ≡ false → (todo flags m ≡ false) × Clear lent w (suc i) (suc m))
-            → OnTheWay lent t w flags'
-        worked-moved flags' spared =
+        pub worked-moved : (due' : List ℤ)
+            → ((m : ℕ) → m < n → (m ≡ i → ⊥) → todo due' m ≡ false → (todo due m ≡ false) × Clear lent w (suc i) (suc m))
+            → OnTheWay lent t w due'
+        worked-moved due' spared =
             record {
               way = way-step (laws lent dims t) li (x .way) e;
               marks =
@@ -75,34 +74,34 @@ module _ (lent : Lent) (dims : 0 < axes lent) (t : List ℤ) where
         worked-falls ne = ⊎-elim (λ q. absurd (ne q)) (λ l. l) (laws lent dims t .falls li (x .way .good) e)
 
 -- ---- the measure
-abbrev flag : Flags → ℕ → ℕ
-flag flags m = cond (todo flags m) 1 0
+abbrev one : List ℤ → ℕ → ℕ
+one due m = cond (todo due m) 1 0
 
-flag-count : (n : ℕ) (flags : Flags) → sumBelow n (flag flags) ≤ n
+one-count : (n : ℕ) (due : List ℤ) → sumBelow n (one due) ≤ n
 unfolding sumBelow
-flag-count zero flags = omega arith
-flag-count (suc n) flags = by (todo flags n) refl (flag-count n flags)
+one-count zero due = omega arith
+one-count (suc n) due = by (todo due n) refl (one-count n due)
   where
-    by : (b : Bool) → todo flags n ≡ b → sumBelow n (flag flags) ≤ n → sumBelow n (flag flags) + flag flags n ≤ suc n
+    by : (b : Bool) → todo due n ≡ b → sumBelow n (one due) ≤ n → sumBelow n (one due) + one due n ≤ suc n
     by true e h = rw e (omega arith)
     by false e h = rw e (omega arith)
 
 module _ (lent : Lent) (n : ℕ) (few : n ≤ 32) where
   -- a row that moved nothing is done
-  pub less-rows : (v : List ℤ) (flags flags' : Flags) (i : ℕ) → i < n → todo flags i ≡ true → todo flags' i ≡ false
-      → ((m : ℕ) → (m ≡ i → ⊥) → todo flags' m ≡ todo flags m) → toGo lent n v flags' < toGo lent n v flags
+  pub less-rows : (v due due' : List ℤ) (i : ℕ) → i < n → todo due i ≡ true → todo due' i ≡ false
+      → ((m : ℕ) → (m ≡ i → ⊥) → todo due' m ≡ todo due m) → toGo lent n v due' < toGo lent n v due
   unfolding toGo
-  less-rows v flags flags' i li e e' same =
-      let s : sumBelow n (flag flags') < sumBelow n (flag flags) = sum-lt no-more i li (rw (e, e') (omega arith)) in
+  less-rows v due due' i li e e' same =
+      let s : sumBelow n (one due') < sumBelow n (one due) = sum-lt no-more i li (rw (e, e') (omega arith)) in
       omega arith
     where
-      no-more : (m : ℕ) → m < n → flag flags' m ≤ flag flags m
+      no-more : (m : ℕ) → m < n → one due' m ≤ one due m
       no-more m h =
           ⊎-elim
-          (λ q. subst (λ (k : ℕ). flag flags' k ≤ flag flags k) (sym q) (rw (e, e') (omega arith)))
+          (λ q. subst (λ (k : ℕ). one due' k ≤ one due k) (sym q) (rw (e, e') (omega arith)))
           (λ ne. rw (same m ne) (omega arith)) (same-or m i)
 
   -- a word moved
-  pub less-extent : (v w : List ℤ) (flags flags' : Flags) → extent lent w < extent lent v → toGo lent n w flags' < toGo lent n v flags
+  pub less-extent : (v w due due' : List ℤ) → extent lent w < extent lent v → toGo lent n w due' < toGo lent n v due
   unfolding toGo
-  less-extent v w flags flags' h = omega (arith, flag-count n flags', mul-le-mul-right 33 h)
+  less-extent v w due due' h = omega (arith, one-count n due', mul-le-mul-right 33 h)

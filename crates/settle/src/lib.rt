@@ -2,20 +2,22 @@
 // written back once.
 ghost use mathlib.Core.Path.{_≡_};
 ghost use mathlib.Core.Bool.{true, false};
-ghost use Prim.Native.Nat.{ℕ, _+_, _<_, _≤_};
+ghost use Prim.Native.Nat.{ℕ, _+_, _*_, _<_, _≤_};
 ghost use mathlib.Core.Logic.{_⊎_};
+ghost use lib.Dec.{leb};
 ghost use lib.ListN.{length};
 ghost use Rattle.integers.specs.Bits.{bit};
 ghost use Rattle.integers.specs.Words.{word};
-ghost use Rattle.sheet.specs.Layout.{lentOf, rules, rows, namesRow};
-ghost use Rattle.sheet.specs.Accepted.{Block, Table};
+ghost use Rattle.sheet.specs.Layout.{lentOf, boxes, rules, rows, namesRow};
+ghost use Rattle.sheet.specs.Accepted.{Head, Rows, Block, Table};
 ghost use Rattle.words.specs.Places.{RulePlace};
-ghost use Rattle.nearby.specs.Listing.{Ready, Unreached};
+ghost use Rattle.nearby.specs.Listing.{headLen, Ready, Unreached};
 ghost use Rattle.nearby.specs.Index.{rulesAt};
-ghost use Rattle.settle.specs.Todo.{Next, Asks, Spared, Touched, FoundBy};
+ghost use Rattle.settle.specs.Todo.{Next, Asks, Spared, Touched, FoundBy, Answered};
 ghost use Rattle.settle.specs.Demand.{Promise};
 use narrow::Step;
 use nearby::LIST;
+use nearby::SMALL_LIST;
 use sheet::Settling;
 use words::Place;
 
@@ -23,11 +25,6 @@ use words::Place;
 pub const ROWS: usize = 32;
 
 pub const WORDS: usize = 288;
-
-// The rows that are to be narrowed: a flag for each.
-pub struct Flags {
-    pub rows: [bool; ROWS],
-}
 
 // The number, or where it is not below n the number less n.
 fn wrapped(m: usize, n: usize) -> usize
@@ -37,15 +34,15 @@ fn wrapped(m: usize, n: usize) -> usize
     if m < n { m } else { m - n }
 }
 
-// The first row from row at + 1 on, in turn, that is to be narrowed: its flag's index, or n where there is none.
-fn next_row(flags: Flags, n: usize, at: usize) -> usize
-    requires { ⌜ (n ≤ 32) × (at ≤ n) ⌝ }
-    ensures { λ r. ⌜ Next flags n r ⌝ }
+// The first row from row at + 1 on, in turn, that is to be narrowed: its word's index, or n where there is none.
+fn next_row(due: &[i64], n: usize, at: usize) -> usize
+    requires { ⌜ (n ≤ 32) × (at ≤ n) × (length (now due) ≡ 32) ⌝ }
+    ensures { λ r. ⌜ Next (now (due .entry)) n r ⌝ }
 {
     let mut j = 0;
     while j < n {
         let m = wrapped(at + j, n);
-        if flags.rows[m] {
+        if due[m] == 1 {
             return m;
         }
         j += 1;
@@ -72,24 +69,25 @@ fn touched_by(
     block: &[i64],
     table: &[i64],
     list: &[i64],
-    flags: Flags,
+    due: &mut [i64],
     i: Place,
     n: usize,
     r: Place,
-) -> Flags
+)
     requires { ⌜ Asks (lentOf (now block)) (now table) (now list) i × (n ≡ rows (lentOf (now block)) (now table))
-        × RulePlace (lentOf (now block)) r ⌝ }
-    ensures { λ x. ⌜ Touched n flags (Spared (lentOf (now (block .entry))) (now (table .entry)) (i .number) (r .number)) x ⌝ }
+        × RulePlace (lentOf (now block)) r × (length (now due) ≡ 32) ⌝ }
+    ensures { λ _. ⌜ Touched n (now (due .entry)) (Spared (lentOf (now (block .entry))) (now (table .entry)) (i .number) (r .number))
+        (now (due .exit)) ⌝ }
 {
-    let mut more = flags;
     let mut m = 0;
     while m < n {
-        if !more.rows[m] {
-            more.rows[m] = reaches(block, table, list, i, r, m + 1);
+        if due[m] != 1 {
+            if reaches(block, table, list, i, r, m + 1) {
+                due[m] = 1;
+            }
         }
         m += 1;
     }
-    more
 }
 
 // If it is a non-overlap rule that names row i.
@@ -97,24 +95,24 @@ fn touched_with(
     block: &[i64],
     table: &[i64],
     list: &[i64],
-    flags: Flags,
+    due: &mut [i64],
     i: Place,
     n: usize,
     r: usize,
-) -> Flags
+)
     requires { ⌜ Asks (lentOf (now block)) (now table) (now list) i × (n ≡ rows (lentOf (now block)) (now table))
-        × (r < rules (lentOf (now block))) ⌝ }
-    ensures { λ x. ⌜ Touched n flags (Spared (lentOf (now (block .entry))) (now (table .entry)) (i .number) r) x ⌝ }
+        × (r < rules (lentOf (now block))) × (length (now due) ≡ 32) ⌝ }
+    ensures { λ _. ⌜ Touched n (now (due .entry)) (Spared (lentOf (now (block .entry))) (now (table .entry)) (i .number) r) (now (due .exit)) ⌝ }
 {
     let rule = words::rule_place(block, r);
     if !words::is_non_overlap(block, rule) {
-        return flags;
+        return;
     }
     let number = i.number;
     if !words::names_row(block, rule, number) {
-        return flags;
+        return;
     }
-    touched_by(block, table, list, flags, i, n, rule)
+    touched_by(block, table, list, due, i, n, rule);
 }
 
 // If the rule counts.
@@ -122,36 +120,35 @@ fn touched_if(
     block: &[i64],
     table: &[i64],
     list: &[i64],
-    flags: Flags,
+    due: &mut [i64],
     i: Place,
     n: usize,
     r: usize,
-) -> Flags
+)
     requires { ⌜ Asks (lentOf (now block)) (now table) (now list) i × (n ≡ rows (lentOf (now block)) (now table))
-        × (r < rules (lentOf (now block))) ⌝ }
-    ensures { λ x. ⌜ Touched n flags (λ m. bit (word (now (list .entry)) rulesAt) r ≡ true
-        → Spared (lentOf (now (block .entry))) (now (table .entry)) (i .number) r m) x ⌝ }
+        × (r < rules (lentOf (now block))) × (length (now due) ≡ 32) ⌝ }
+    ensures { λ _. ⌜ Touched n (now (due .entry)) (λ m. bit (word (now (list .entry)) rulesAt) r ≡ true
+        → Spared (lentOf (now (block .entry))) (now (table .entry)) (i .number) r m) (now (due .exit)) ⌝ }
 {
     if !nearby::rule_counts(block, list, r) {
-        return flags;
+        return;
     }
-    touched_with(block, table, list, flags, i, n, r)
+    touched_with(block, table, list, due, i, n, r);
 }
 
 // The rows that row i, which moved, reaches by some rule are to be narrowed too.
-fn touched(block: &[i64], table: &[i64], list: &[i64], flags: Flags, i: Place, n: usize) -> Flags
-    requires { ⌜ Asks (lentOf (now block)) (now table) (now list) i × (n ≡ rows (lentOf (now block)) (now table)) ⌝ }
-    ensures { λ x. ⌜ Touched n flags (λ m. (r : ℕ) → r < rules (lentOf (now (block .entry)))
-        → Spared (lentOf (now (block .entry))) (now (table .entry)) (i .number) r m) x ⌝ }
+fn touched(block: &[i64], table: &[i64], list: &[i64], due: &mut [i64], i: Place, n: usize)
+    requires { ⌜ Asks (lentOf (now block)) (now table) (now list) i × (n ≡ rows (lentOf (now block)) (now table))
+        × (length (now due) ≡ 32) ⌝ }
+    ensures { λ _. ⌜ Touched n (now (due .entry)) (λ m. (r : ℕ) → r < rules (lentOf (now (block .entry)))
+        → Spared (lentOf (now (block .entry))) (now (table .entry)) (i .number) r m) (now (due .exit)) ⌝ }
 {
     let count = words::rules_of(block);
-    let mut more = flags;
     let mut r = 0;
     while r < count {
-        more = touched_if(block, table, list, more, i, n, r);
+        touched_if(block, table, list, due, i, n, r);
         r += 1;
     }
-    more
 }
 
 // One run over another of the same length.
@@ -173,10 +170,10 @@ fn settle_rows(block: &[i64], table: &mut [i64], list: &mut [i64]) -> bool
     ensures { λ r. ⌜ FoundBy (lentOf (now (block .entry))) (now (table .entry)) r (now (table .exit)) ⌝ }
 {
     let n = words::rows_of(block, table);
-    let mut flags = Flags { rows: [true; ROWS] };
+    let mut due = [1i64; ROWS];
     let mut at = 0;
     loop {
-        let i = next_row(flags, n, at);
+        let i = next_row(&due, n, at);
         if i == n {
             return true;
         }
@@ -187,12 +184,36 @@ fn settle_rows(block: &[i64], table: &mut [i64], list: &mut [i64]) -> bool
             }
             Step::Still => {}
             Step::Moved => {
-                flags = touched(block, table, list, flags, row, n);
+                touched(block, table, list, &mut due, row, n);
             }
         }
-        flags.rows[i] = false;
+        due[i] = 0;
         at = i;
     }
+}
+
+// Whether the sheet is small: its rows times its boxes are no more than 256.
+fn is_small(block: &[i64], table: &[i64]) -> bool
+    requires { ⌜ Head (lentOf (now block)) × Rows (lentOf (now block)) (now table) ⌝ }
+    ensures { λ r. ⌜ r ≡ leb (rows (lentOf (now (block .entry))) (now (table .entry)) * boxes (lentOf (now (block .entry)))) 256 ⌝ }
+{
+    words::rows_of(block, table) * words::boxes_of(block) <= 256
+}
+
+// Settles the table of an accepted sheet, or leaves it as it was. The list's words may be any.
+fn settle_with(block: &[i64], table: &mut [i64], list: &mut [i64]) -> Settling
+    requires { ⌜ Block (lentOf (now block)) × Table (lentOf (now block)) (now table) × (headLen ≤ length (now list)) ⌝ }
+    ensures { λ r. ⌜ Answered (lentOf (now (block .entry))) (now (table .entry)) r (now (table .exit)) ⌝ }
+{
+    let n = table.len();
+    let mut work = [0i64; WORDS];
+    copy(&mut work[..n], table);
+    nearby::prepare(block, list);
+    if !settle_rows(block, &mut work[..n], list) {
+        return Settling::NoLayout;
+    }
+    copy(table, &work[..n]);
+    Settling::Settled
 }
 
 // Settles the table, or leaves it as it was.
@@ -203,14 +224,10 @@ pub fn settle(block: &[i64], table: &mut [i64]) -> Settling
     if g > 0 {
         return Settling::Refused(g);
     }
-    let n = table.len();
-    let mut work = [0i64; WORDS];
-    copy(&mut work[..n], table);
-    let mut list = [0i64; LIST];
-    nearby::prepare(block, &mut list);
-    if !settle_rows(block, &mut work[..n], &mut list) {
-        return Settling::NoLayout;
+    if is_small(block, table) {
+        let mut list = [0i64; SMALL_LIST];
+        return settle_with(block, table, &mut list);
     }
-    copy(table, &work[..n]);
-    Settling::Settled
+    let mut list = [0i64; LIST];
+    settle_with(block, table, &mut list)
 }

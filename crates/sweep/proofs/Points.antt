@@ -10,7 +10,7 @@ use native.Mathlib.Nat.{zero-add, not-suc-le-zero, le-of-suc-le-suc}
 use lib.IntN.{ℤ, pos}
 use lib.Signed.{_≤ℤ_, _<ℤ_, leZ}
 use lib.ListN.{length, set, take, drop, length-map, drop-of-length-le}
-use lib.Seq.{paste-suc, take-all}
+use lib.Seq.{paste-suc, take-all, length-take-le, drop-cons, getD-at}
 use Rattle.integers.specs.Integer.{Within}
 use Rattle.integers.specs.Words.{word}
 use Rattle.integers.proofs.Ints.{ints, test-of-le}
@@ -87,6 +87,12 @@ made-more {p} {g} {q} {j} m h e = record {
   long = m .long;
   done = rw (m .done, e, add-one) (simp zero-add at (paste-suc p 0 g j (pos 0) (omega arith) (omega (arith, m .long))));
 }
+
+-- the words from j on are still those of p
+pub made-word : {p g q : List ℤ} {j : ℕ} → Made p g q j → j < length p → word q j ≡ word p j
+made-word {p} {g} {q} {j} m h =
+    let l : length (take j g) ≡ j = length-take-le j g (omega (arith, m .long)) in
+    rw (m .done, drop-cons p j (pos 0) h) (getD-at (take j g) (word p j) (drop (suc j) p) (pos 0) j l)
 
 pub made-all : {p g q : List ℤ} {j : ℕ} → Made p g q j → length p ≤ j → q ≡ g
 made-all {p} {g} {q} {j} m h =

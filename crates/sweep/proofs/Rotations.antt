@@ -16,7 +16,7 @@ use Rattle.sweep.specs.Rotation.{axes, rotation}
 use Rattle.sweep.specs.Theorem.{Order}
 
 -- the tests of the definition
-pub rotation-in : {k d j : ℕ} → k ≤ axes → d < k → j < k → rotation k d j ≡ (j + d) % k
+rotation-in : {k d j : ℕ} → k ≤ axes → d < k → j < k → rotation k d j ≡ (j + d) % k
 unfolding rotation
 rotation-in {k} {d} {j} a h g = rw (le-leb k axes a, lt-ltb d k h, lt-ltb j k g)
 
@@ -39,12 +39,14 @@ rotation-below k d j = by (decLe k axes) (decLt d k) (decLt j k)
 -- ---- the rotation of dimension d is an order of the k dimensions
 module _ {k d : ℕ} (a : k ≤ axes) (h : d < k) where
   -- j + d, or k less where that is not below k
+  pub rotation-sum : {j : ℕ} → j < k → j + d < k → rotation k d j ≡ j + d
+  rotation-sum g t = rotation-in a h g ∙ mod-eq-of-lt t
+
+  pub rotation-rest : {j : ℕ} → j < k → k ≤ j + d → rotation k d j ≡ j + d - k
+  rotation-rest {j} g t = let u : j + d - k < k = omega arith in rotation-in a h g ∙ mod-eq-sub-mod t ∙ mod-eq-of-lt u
+
   rotation-cases : (j : ℕ) → j < k → ((j + d < k) × (rotation k d j ≡ j + d)) ⊎ ((k ≤ j + d) × (rotation k d j ≡ j + d - k))
-  rotation-cases j g =
-      ⊎-elim
-      (λ (t : j + d < k). inl (t, rotation-in a h g ∙ mod-eq-of-lt t))
-      (λ (t : k ≤ j + d). let u : j + d - k < k = omega arith in inr (t, rotation-in a h g ∙ mod-eq-sub-mod t ∙ mod-eq-of-lt u))
-      (below-or (j + d) k)
+  rotation-cases j g = ⊎-elim (λ (t : j + d < k). inl (t, rotation-sum g t)) (λ (t : k ≤ j + d). inr (t, rotation-rest g t)) (below-or (j + d) k)
 
   pub rotation-first : rotation k d 0 ≡ d
   rotation-first = let g : 0 < k = omega arith in ⊎-elim (λ w. omega (arith, w .1)) (λ w. omega (arith, w .1)) (rotation-cases 0 g)

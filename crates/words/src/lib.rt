@@ -2,7 +2,8 @@
 // A record's place is found once and handed on. The readers lean on the lengths that checks 2 to 5 leave (`Head`, `Rows`), and on
 // the range of a word only where it is cast.
 ghost use mathlib.Core.Path.{_≡_};
-ghost use Prim.Native.Nat.{_<_, _≤_};
+ghost use mathlib.Core.Bool.{true};
+ghost use Prim.Native.Nat.{_^_, _<_, _≤_};
 ghost use lib.ListN.{length};
 ghost use lib.IntN.{pos};
 ghost use Rattle.integers.specs.Integer.{nat, eqZ, within};
@@ -73,6 +74,14 @@ pub fn set_at(words: &[i64], at: usize) -> u32
 {
     let w = words[at];
     w as u32
+}
+
+// Whether every member of the set is below s.
+pub fn is_below(set: u32, s: usize) -> bool
+    requires { ⌜ s < 32 ⌝ }
+    ensures { λ r. ⌜ (r ≡ true → set < 2 ^ s) × (set < 2 ^ s → r ≡ true) ⌝ }
+{
+    set >> s == 0
 }
 
 // ---- the block

@@ -1,52 +1,39 @@
 -- `bounds::search` meets its contract. The loop's invariant: the sweep has been reached by jumps over forbidden regions, and is live. Its
 -- measure is the number of points after the candidate. Assumes nothing.
 use mathlib.Core.Path.{_≡_, refl, sym, ap, _∙_, subst}
-use mathlib.Core.Bool.{true, false}
+use mathlib.Core.Bool.{Bool, true, false}
 use mathlib.Core.List.{List}
-use mathlib.Core.Option.{none, some}
 use Prim.Native.Nat.{ℕ, _≤_, _<_}
 use native.Mathlib.Omega.{arith}
 use borrow.Author.Needs.{needs}
 use borrow.Author.Tests.{not-true, not-false}
 use lib.ListN.{length}
 use lib.IntN.{ℤ}
-use mir.Facts.{toZ-ofZ}
-use Rattle.integers.specs.Words.{word}
-use Rattle.integers.proofs.Machine.{fits-word}
 use Rattle.sheet.specs.Layout.{Lent, lentOf, axes}
 use Rattle.sheet.specs.Allowed.{forbidden}
-use Rattle.sheet.specs.Bounds.{Extreme}
 use Rattle.region.specs.declared.Area.{Area}
 use Rattle.region.specs.Area.{Small, inArea}
 use Rattle.region.proofs.Areas.{in-small}
-use Rattle.sweep.specs.declared.Sweep.{Sweep}
 use Rattle.sweep.specs.Point.{Near, turned}
 use Rattle.sweep.specs.Rotation.{rotation}
-use Rattle.sweep.specs.Moves.{advance, jumpedPast}
+use Rattle.sweep.specs.Moves.{Sweep, words, sweepOf, advance, jumpedPast}
 use Rattle.sweep.specs.Theorem.{Reached, pointsAfter}
 use Rattle.sweep.proofs.Mirror.{TurnedBox, near-start, near-end}
 use Rattle.sweep.proofs.Points.{near-of}
-use Rattle.bounds.specs.Search.{Ahead, freeIn, coordinate}
-use Rattle.bounds.specs.declared.Found.the-variants.{At, Nothing}
+use Rattle.bounds.specs.Search.{Sighted}
 use Rattle.bounds.proofs.Swept.{swept-start, swept-near, swept-in, swept-found, swept-none, swept-on, swept-falls}
 use Rattle.bounds.proofs.search.Statement.{statement}
 use Rattle.bounds.proofs.search.Tie as tie
 
 abbrev Inv-loop : tie.InvT-loop
-Inv-loop block table list nearby i s d flip k first end w₀ w =
-    Reached (axes (lentOf block)) (rotation (axes (lentOf block)) d) first end (λ q. forbidden (lentOf block) table (i .number) s (turned flip q) ≡ true) w
-    × (w .live ≡ true)
+Inv-loop block table list nearby i s d flip k first end state₀ state =
+    (length state ≡ words)
+    × Reached (axes (lentOf block)) (rotation (axes (lentOf block)) d) first end (λ q. forbidden (lentOf block) table (i .number) s (turned flip q) ≡ true)
+    (sweepOf state true)
 
 abbrev μ-loop : tie.MeasureT-loop
-μ-loop block table list nearby i s d flip k first end w₀ w = pointsAfter (rotation (axes (lentOf block)) d) first end (axes (lentOf block)) (w .candidate)
-
-found-at : (z : ℤ) → coordinate (At z) ≡ some z
-unfolding coordinate
-found-at z = refl
-
-found-none : coordinate Nothing ≡ none
-unfolding coordinate
-found-none = refl
+μ-loop block table list nearby i s d flip k first end state₀ state =
+    pointsAfter (rotation (axes (lentOf block)) d) first end (axes (lentOf block)) (sweepOf state true .candidate)
 
 near-low : {a : Area} → Small a → Near (a .low)
 near-low s = near-of (omega arith) (s .lows)
@@ -112,67 +99,72 @@ turned-end-requires c κs = near-high (c .before .before .before .pre .4)
 turned-end-requires-2 : tie.Need-turned-end-requires-2 Inv-loop μ-loop
 turned-end-requires-2 c κs = near-low (c .before .before .before .before .pre .4)
 
-new-requires : tie.Need-new-requires Inv-loop μ-loop
-new-requires c κs = near-last c
+slice-aggregate-begin : tie.Need-slice-aggregate-begin Inv-loop μ-loop
+slice-aggregate-begin c = refl
+
+begin-requires : tie.Need-begin-requires Inv-loop μ-loop
+begin-requires c κs = (refl, near-last (c .before))
 
 loop-holds : tie.Need-loop-holds Inv-loop μ-loop
 loop-holds c =
-    let b = c .before in (
-      swept-start (lent b) (t b) (top b .args .i .number) (top b .args .s) (top b .args .d) (few b) (below b) (top b .args .flip) (top b .args .area) (filled b) (first b) (end b) (box b) (first-long b) (end-long b) (c .new .ensures),
-      ap (λ (s : Sweep). s .live) (c .new .ensures),
+    let b = c .before .before .before in (
+      search needs,
+      swept-start (lent b) (t b) (top b .args .i .number) (top b .args .s) (top b .args .d) (few b) (below b) (top b .args .flip) (top b .args .area) (filled b) (first b) (end b) (box b) (first-long b) (end-long b) (c .before .begin .ensures),
     )
 
 -- ---- at the loop's test
 module _ (l : tie.At-loop Inv-loop μ-loop) where
   abbrev b : tie.After-turned-end2 Inv-loop μ-loop
-  b = l .before .before
+  b = l .before .before .before .before
 
   abbrev w : Sweep
-  w = l .loop .w
+  w = sweepOf (l .loop .state) true
 
   candidate-is-near : Near (w .candidate)
-  candidate-is-near = swept-near (lent b) (t b) (top b .args .i .number) (top b .args .s) (top b .args .d) (few b) (below b) (top b .args .flip) (top b .args .area) (filled b) (first b) (end b) (box b) (first-long b) (end-long b) (l .loop .inv .0) (l .loop .inv .1) (near-first b) (near-last b)
+  candidate-is-near = swept-near (lent b) (t b) (top b .args .i .number) (top b .args .s) (top b .args .d) (few b) (below b) (top b .args .flip) (top b .args .area) (filled b) (first b) (end b) (box b) (first-long b) (end-long b) (l .loop .inv .1) refl (near-first b) (near-last b)
 
   -- p is the point that the candidate stands for
   module _ (p : List ℤ) (point : p ≡ turned (top b .args .flip) (w .candidate)) where
     in-area : inArea (axes (lent b)) (top b .args .area) p ≡ true
-    in-area = swept-in (lent b) (t b) (top b .args .i .number) (top b .args .s) (top b .args .d) (few b) (below b) (top b .args .flip) (top b .args .area) (filled b) (first b) (end b) (box b) (first-long b) (end-long b) (l .loop .inv .0) point (l .loop .inv .1)
+    in-area = swept-in (lent b) (t b) (top b .args .i .number) (top b .args .s) (top b .args .d) (few b) (below b) (top b .args .flip) (top b .args .area) (filled b) (first b) (end b) (box b) (first-long b) (end-long b) (l .loop .inv .1) point refl
 
     free-found : forbidden (lent b) (t b) (top b .args .i .number) (top b .args .s) p ≡ false
-        → Extreme (Ahead (top b .args .flip)) (freeIn (lent b) (t b) (top b .args .i .number) (top b .args .s) (top b .args .area)) (top b .args .d) (some (word p (top b .args .d)))
-    free-found e = swept-found (lent b) (t b) (top b .args .i .number) (top b .args .s) (top b .args .d) (few b) (below b) (top b .args .flip) (top b .args .area) (filled b) (first b) (end b) (box b) (first-long b) (end-long b) (l .loop .inv .0) point (l .loop .inv .1) e
+        → Sighted (top b .args .flip) (lent b) (t b) (top b .args .i .number) (top b .args .s) (top b .args .area) (top b .args .d) (record { found = true; point = p })
+    free-found e = swept-found (lent b) (t b) (top b .args .i .number) (top b .args .s) (top b .args .d) (few b) (below b) (top b .args .flip) (top b .args .area) (filled b) (first b) (end b) (box b) (first-long b) (end-long b) (l .loop .inv .1) point refl e
+
+slice-aggregate-candidate : tie.Need-slice-aggregate-candidate Inv-loop μ-loop
+slice-aggregate-candidate c = sym (c .before .loop .inv .0)
+
+candidate-requires : tie.Need-candidate-requires Inv-loop μ-loop
+candidate-requires c κs = c .before .loop .inv .0
 
 turned-point-requires : tie.Need-turned-point-requires Inv-loop μ-loop
-turned-point-requires c κs = candidate-is-near (c .before)
+turned-point-requires c κs = rw (c .candidate .ensures) (candidate-is-near (c .before .before))
+
+-- the point that is asked about
+module _ (c : tie.After-turned-point Inv-loop μ-loop) where
+  abbrev asked : tie.At-loop Inv-loop μ-loop
+  asked = c .before .before .before
+
+  point-is : c .turned-point .result ≡ turned (top (b asked) .args .flip) (w asked .candidate)
+  point-is = c .turned-point .ensures ∙ ap (turned (top (b asked) .args .flip)) (c .before .candidate .ensures)
 
 region-at-requires : tie.Need-region-at-requires Inv-loop μ-loop
 region-at-requires c κs =
-    let l = c .before .before in
-    let s = top (l .before .before) in
-    let h = in-area l (c .turned-point .result) (c .turned-point .ensures) in
+    let s = top (b (asked c)) in
+    let h = in-area (asked c) (c .turned-point .result) (point-is c) in
     (record { block = s .pre .0; table = s .pre .1; row = s .pre .2; near = in-small _ _ (s .pre .4) h }, s .pre .6, s .pre .7 (c .turned-point .result) h)
-
-mul-t27 : tie.Need-mul-t27 Inv-loop μ-loop
-mul-t27 c = let s = top (c .before .before .before .before .before .before) in omega (arith, s .pre .3, s .pre .0 .head .few-axes)
-
-array-copy-out-t30 : tie.Need-array-copy-out-t30 Inv-loop μ-loop
-array-copy-out-t30 c = let s = top (c .before .before .before .before .before .before) in omega (arith, s .pre .3, s .pre .0 .head .few-axes)
 
 returns : tie.Need-returns Inv-loop μ-loop
 returns c =
-    let r = c .before .before in
-    let l = r .before .before .before in
-    let p = r .before .turned-point in
-    subst (Extreme _ _ _) (sym (ap (λ (z : ℤ). coordinate (At z)) (toZ-ofZ (fits-word (word (p .result) (top (l .before .before) .args .d)) (c .t30 .given))) ∙ found-at (word (p .result) (top (l .before .before) .args .d))))
-    (free-found l (p .result) (p .ensures) (sym (r .region-at .ensures .hit) ∙ not-true _ (c .before .if1 .taken)))
+    let r = c .before in
+    free-found (asked (r .before)) (r .before .turned-point .result) (point-is (r .before))
+    (sym (r .region-at .ensures .hit) ∙ not-true _ (c .if1 .taken))
 
 -- ---- a region that forbids the point
 module _ (c : tie.After-turned-end3 Inv-loop μ-loop) where
   abbrev region : tie.After-region-at Inv-loop μ-loop
   region = c .before .before .before .before .before
-
-  abbrev test : tie.At-loop Inv-loop μ-loop
-  test = c .before .before .before .before .before .before .before .before
 
   last-length : length (c .turned-end3 .result) ≡ 4
   last-length = search needs
@@ -180,67 +172,87 @@ module _ (c : tie.After-turned-end3 Inv-loop μ-loop) where
   hit : region .region-at .result .hit ≡ true
   hit = not-false _ (c .before .before .before .before .if1 .left)
 
-module _ (c : tie.After-advanced Inv-loop μ-loop) where
+module _ (c : tie.After-advance Inv-loop μ-loop) where
   abbrev jump : tie.After-turned-end3 Inv-loop μ-loop
-  jump = c .before .before
+  jump = c .before .before .before .before .before
+
+  abbrev point : tie.After-turned-point Inv-loop μ-loop
+  point = c .before .before .before .before .before .before .before .before .before .before .before
 
   abbrev l : tie.At-loop Inv-loop μ-loop
-  l = c .before .before .before .before .before .before .before .before .before .before
+  l = c .before .before .before .before .before .before .before .before .before .before .before .before .before .before
 
   abbrev b2 : tie.After-turned-end2 Inv-loop μ-loop
-  b2 = l .before .before
+  b2 = l .before .before .before .before
 
   dims-are : b2 .before .before .before .before .axes-of .result ≡ axes (lent b2)
   dims-are = b2 .before .before .before .before .axes-of .ensures
 
-  moves : c .advanced .result ≡ advance (rotation (axes (lent b2)) (top b2 .args .d)) (first b2) (end b2) (axes (lent b2)) (jumpedPast (l .loop .w) (jump .turned-end3 .result))
+  moves : sweepOf (c .advance .last .0) (c .advance .result)
+      ≡ advance (rotation (axes (lent b2)) (top b2 .args .d)) (first b2) (end b2) (axes (lent b2)) (jumpedPast (w l) (jump .turned-end3 .result))
   moves =
-      c .advanced .ensures
-      ∙ ap (advance (rotation (b2 .before .before .before .before .axes-of .result) (top b2 .args .d)) (first b2) (end b2) (b2 .before .before .before .before .axes-of .result)) (c .before .jumped .ensures)
-      ∙ ap (λ (n : ℕ). advance (rotation n (top b2 .args .d)) (first b2) (end b2) n (jumpedPast (l .loop .w) (jump .turned-end3 .result))) dims-are
+      c .advance .ensures
+      ∙ ap (advance (rotation (b2 .before .before .before .before .axes-of .result) (top b2 .args .d)) (first b2) (end b2) (b2 .before .before .before .before .axes-of .result)) (c .before .before .before .jump-past .ensures)
+      ∙ ap (λ (n : ℕ). advance (rotation n (top b2 .args .d)) (first b2) (end b2) n (jumpedPast (w l) (jump .turned-end3 .result))) dims-are
 
   swept-next : Reached (axes (lent b2)) (rotation (axes (lent b2)) (top b2 .args .d)) (first b2) (end b2)
-      (λ q. forbidden (lent b2) (t b2) (top b2 .args .i .number) (top b2 .args .s) (turned (top b2 .args .flip) q) ≡ true) (c .advanced .result)
+      (λ q. forbidden (lent b2) (t b2) (top b2 .args .i .number) (top b2 .args .s) (turned (top b2 .args .flip) q) ≡ true) (sweepOf (c .advance .last .0) (c .advance .result))
   swept-next =
-      swept-on (lent b2) (t b2) (top b2 .args .i .number) (top b2 .args .s) (top b2 .args .d) (few b2) (below b2) (top b2 .args .flip) (top b2 .args .area) (filled b2) (first b2) (end b2) (box b2) (first-long b2) (end-long b2) (l .loop .inv .0) (region jump .before .turned-point .ensures) (l .loop .inv .1)
+      swept-on (lent b2) (t b2) (top b2 .args .i .number) (top b2 .args .s) (top b2 .args .d) (few b2) (below b2) (top b2 .args .flip) (top b2 .args .area) (filled b2) (first b2) (end b2) (box b2) (first-long b2) (end-long b2) (l .loop .inv .1) (point-is point) refl
       (region jump .region-at .result .area) (jump .turned-end3 .ensures) (omega (arith, few b2, last-length jump))
       (region jump .region-at .ensures .around (hit jump)) (region jump .region-at .ensures .only (hit jump)) moves
 
-  exhausted : c .advanced .result .live ≡ false
-      → Extreme (Ahead (top b2 .args .flip)) (freeIn (lent b2) (t b2) (top b2 .args .i .number) (top b2 .args .s) (top b2 .args .area)) (top b2 .args .d) none
-  exhausted e = swept-none (lent b2) (t b2) (top b2 .args .i .number) (top b2 .args .s) (top b2 .args .d) (few b2) (below b2) (top b2 .args .flip) (top b2 .args .area) (filled b2) (first b2) (end b2) (box b2) (first-long b2) (end-long b2) swept-next e
+  exhausted : c .advance .result ≡ false → (q : List ℤ)
+      → Sighted (top b2 .args .flip) (lent b2) (t b2) (top b2 .args .i .number) (top b2 .args .s) (top b2 .args .area) (top b2 .args .d) (record { found = false; point = q })
+  exhausted e q = swept-none (lent b2) (t b2) (top b2 .args .i .number) (top b2 .args .s) (top b2 .args .d) (few b2) (below b2) (top b2 .args .flip) (top b2 .args .area) (filled b2) (first b2) (end b2) (box b2) (first-long b2) (end-long b2) swept-next e q
 
-  falls-next : c .advanced .result .live ≡ true
-      → pointsAfter (rotation (axes (lent b2)) (top b2 .args .d)) (first b2) (end b2) (axes (lent b2)) (c .advanced .result .candidate)
-      < pointsAfter (rotation (axes (lent b2)) (top b2 .args .d)) (first b2) (end b2) (axes (lent b2)) (l .loop .w .candidate)
+  falls-next : c .advance .result ≡ true
+      → pointsAfter (rotation (axes (lent b2)) (top b2 .args .d)) (first b2) (end b2) (axes (lent b2)) (sweepOf (c .advance .last .0) true .candidate)
+      < pointsAfter (rotation (axes (lent b2)) (top b2 .args .d)) (first b2) (end b2) (axes (lent b2)) (w l .candidate)
   falls-next =
-      swept-falls (lent b2) (t b2) (top b2 .args .i .number) (top b2 .args .s) (top b2 .args .d) (few b2) (below b2) (top b2 .args .flip) (top b2 .args .area) (filled b2) (first b2) (end b2) (box b2) (first-long b2) (end-long b2) (l .loop .inv .0) (region jump .before .turned-point .ensures) (l .loop .inv .1)
+      swept-falls (lent b2) (t b2) (top b2 .args .i .number) (top b2 .args .s) (top b2 .args .d) (few b2) (below b2) (top b2 .args .flip) (top b2 .args .area) (filled b2) (first b2) (end b2) (box b2) (first-long b2) (end-long b2) (l .loop .inv .1) (point-is point) refl
       (region jump .region-at .result .area) (jump .turned-end3 .ensures) (omega (arith, few b2, last-length jump))
       (region jump .region-at .ensures .around (hit jump)) (region jump .region-at .ensures .only (hit jump)) moves
 
 turned-end-requires-3 : tie.Need-turned-end-requires-3 Inv-loop μ-loop
 turned-end-requires-3 c κs = near-low (c .before .before .before .before .region-at .ensures .small)
 
-jumped-requires : tie.Need-jumped-requires Inv-loop μ-loop
-jumped-requires c κs =
-    let s = region c .region-at .ensures .small in
-    near-end {low = region c .region-at .result .area .low} {high = region c .region-at .result .area .high}
-    (record { start = refl; end = c .turned-end3 .ensures }) (near-low s) (near-high s)
+slice-aggregate-jump-past : tie.Need-slice-aggregate-jump-past Inv-loop μ-loop
+slice-aggregate-jump-past c = sym (asked (region (c .before) .before) .loop .inv .0)
 
-advanced-requires : tie.Need-advanced-requires Inv-loop μ-loop
-advanced-requires c κs = near-last (c .before .before .before .before .before .before .before .before .before .before .before)
+jump-past-requires : tie.Need-jump-past-requires Inv-loop μ-loop
+jump-past-requires c κs =
+    let e = c .before in
+    let s = region e .region-at .ensures .small in (
+      asked (region e .before) .loop .inv .0,
+      near-end {low = region e .region-at .result .area .low} {high = region e .region-at .result .area .high}
+          (record { start = refl; end = e .turned-end3 .ensures }) (near-low s) (near-high s),
+    )
+
+slice-aggregate-advance : tie.Need-slice-aggregate-advance Inv-loop μ-loop
+slice-aggregate-advance c = search needs
+
+advance-requires : tie.Need-advance-requires Inv-loop μ-loop
+advance-requires c κs =
+    let n : length (c .before .before .jump-past .last .0) ≡ words = search needs in
+    (n, near-last (b (asked (region (c .before .before .before .before) .before))))
 
 returns-2 : tie.Need-returns-2 Inv-loop μ-loop
 returns-2 c =
-    let a = c .before in
-    let z : coordinate Nothing ≡ none = found-none in
-    subst (Extreme _ _ _) (sym z) (exhausted a (not-true _ (c .if2 .taken)))
+    let a = c .before .before in
+    exhausted a (not-true _ (c .if2 .taken)) (point a .turned-point .result)
 
 loop-less : tie.Need-loop-less Inv-loop μ-loop
-loop-less c = falls-next (c .before) (not-false _ (c .if2 .left))
+loop-less c = falls-next (c .before .before) (not-false _ (c .if2 .left))
 
 loop-again : tie.Need-loop-again Inv-loop μ-loop
-loop-again c = (swept-next (c .before), not-false _ (c .if2 .left))
+loop-again c =
+    let a = c .before .before in (
+      search needs,
+      subst (λ (r : Bool). Reached (axes (lent (b2 a))) (rotation (axes (lent (b2 a))) (top (b2 a) .args .d)) (first (b2 a)) (end (b2 a))
+          (λ q. forbidden (lent (b2 a)) (t (b2 a)) (top (b2 a) .args .i .number) (top (b2 a) .args .s) (turned (top (b2 a) .args .flip) q) ≡ true) (sweepOf (a .advance .last .0) r))
+          (not-false _ (c .if2 .left)) (swept-next a),
+    )
 
 pub search-spec : {M : Type 1} → statement M
 search-spec =
@@ -251,16 +263,19 @@ search-spec =
     axes-of-requires
     turned-end-requires
     turned-end-requires-2
-    new-requires
+    slice-aggregate-begin
+    begin-requires
     loop-holds
+    slice-aggregate-candidate
+    candidate-requires
     turned-point-requires
     region-at-requires
-    mul-t27
-    array-copy-out-t30
     returns
     turned-end-requires-3
-    jumped-requires
-    advanced-requires
+    slice-aggregate-jump-past
+    jump-past-requires
+    slice-aggregate-advance
+    advance-requires
     returns-2
     loop-less
     loop-again)

@@ -1,6 +1,6 @@
 -- `write_row` meets its contract: so far the ranges of the dimensions passed are written. Assumes nothing.
 use mathlib.Core.Path.{_≡_, sym, ap, ap₂, _∙_, subst}
-use mathlib.Core.Bool.{not, _||_}
+use mathlib.Core.Bool.{true, false, not, _||_}
 use mathlib.Core.List.{List, [], _∷_, _++_, append-assoc}
 use Prim.Native.Nat.{ℕ, _+_, _*_, _-_, _≤_, _<_}
 use native.Mathlib.Omega.{arith}
@@ -16,15 +16,17 @@ use Rattle.integers.proofs.Lists.{length-pairsBelow, pairsBelow-more}
 use Rattle.sheet.specs.Layout.{lentOf, axes}
 use Rattle.words.proofs.Ends.{row-ends}
 use Rattle.region.proofs.Sums.{bits-back}
+use Rattle.narrow.specs.Ends.{endAt}
 use Rattle.narrow.proofs.Writes.{Written, written-none, written-more, written-front, length-written}
 use Rattle.narrow.proofs.write_row.Statement.{statement}
 use Rattle.narrow.proofs.write_row.Tie as tie
 
 abbrev Inv-loop : tie.InvT-loop
-Inv-loop block table₀ shapes low high k at moved₀ d₀ table moved d = (d ≤ k) × Written table₀ (at + 1) (pairsBelow d (word low) (word high)) table moved
+Inv-loop block table₀ shapes ends k at moved₀ d₀ table moved d =
+    (d ≤ k) × Written table₀ (at + 1) (pairsBelow d (λ m. endAt false m ends) (λ m. endAt true m ends)) table moved
 
 abbrev μ-loop : tie.MeasureT-loop
-μ-loop block table₀ shapes low high k at moved₀ d₀ table moved d = k - d
+μ-loop block table₀ shapes ends k at moved₀ d₀ table moved d = k - d
 
 module _ (l : tie.At-loop Inv-loop μ-loop) where
   abbrev s : tie.Start Inv-loop μ-loop
@@ -36,8 +38,14 @@ module _ (l : tie.At-loop Inv-loop μ-loop) where
   abbrev at : ℕ
   at = s .args .i .at
 
+  abbrev lows : ℕ → ℤ
+  lows m = endAt false m (now (s .args .ends))
+
+  abbrev highs : ℕ → ℤ
+  highs m = endAt true m (now (s .args .ends))
+
   abbrev so-far : List ℤ
-  so-far = pairsBelow (l .loop .d) (word (s .args .t5)) (word (s .args .t6))
+  so-far = pairsBelow (l .loop .d) lows highs
 
   few : l .before .axes-of .result ≤ 4
   few = omega (arith, l .before .axes-of .ensures, s .pre .0 .few-axes)
@@ -46,7 +54,7 @@ module _ (l : tie.At-loop Inv-loop μ-loop) where
   ends = omega (arith, l .before .axes-of .ensures, row-ends (s .pre .1) (s .pre .2))
 
   long : length so-far ≡ 2 * l .loop .d
-  long = length-pairsBelow (l .loop .d) (word (s .args .t5)) (word (s .args .t6))
+  long = length-pairsBelow (l .loop .d) lows highs
 
   fits : at + 1 + length so-far ≤ length first
   fits = omega (arith, ends, long, l .loop .inv .0)
@@ -66,7 +74,7 @@ module _ (c : tie.After-put Inv-loop μ-loop) where
   below = c .before .before .before .loop-test .taken
 
   abbrev low-word : ℤ
-  low-word = word (s top .args .t5) d
+  low-word = lows top d
 
   low-written : Written (first top) (at top + 1) (so-far top ++ (low-word ∷ [])) (c .put .last .0) (c .put .result)
   low-written =
@@ -100,8 +108,8 @@ add-put-2 c = let l = c .before .before in omega (arith, ends l, c .before .loop
 mul-put-2 : tie.Need-mul-put-2 Inv-loop μ-loop
 mul-put-2 c = let l = c .before .before in omega (arith, few l, c .before .loop-test .taken)
 
-array-copy-out-put : tie.Need-array-copy-out-put Inv-loop μ-loop
-array-copy-out-put c = let l = c .before .before in omega (arith, few l, c .before .loop-test .taken)
+shared-slice-copy-out-put : tie.Need-shared-slice-copy-out-put Inv-loop μ-loop
+shared-slice-copy-out-put c = let l = c .before .before in omega (arith, few l, s l .pre .3, c .before .loop-test .taken)
 
 put-requires : tie.Need-put-requires Inv-loop μ-loop
 put-requires c κs = let l = c .before .before .before in omega (arith, ends l, len l, c .before .before .loop-test .taken)
@@ -115,11 +123,14 @@ mul-put-3 c = let p = c .before .before in omega (arith, few (top p), below p)
 add-put-4 : tie.Need-add-put-4 Inv-loop μ-loop
 add-put-4 c = let p = c .before .before in omega (arith, ends (top p), below p)
 
+add-put-5 : tie.Need-add-put-5 Inv-loop μ-loop
+add-put-5 c = let p = c .before .before in omega (arith, few (top p), below p)
+
 mul-put-4 : tie.Need-mul-put-4 Inv-loop μ-loop
 mul-put-4 c = let p = c .before .before in omega (arith, few (top p), below p)
 
-array-copy-out-put-2 : tie.Need-array-copy-out-put-2 Inv-loop μ-loop
-array-copy-out-put-2 c = let p = c .before .before in omega (arith, few (top p), below p)
+shared-slice-copy-out-put-2 : tie.Need-shared-slice-copy-out-put-2 Inv-loop μ-loop
+shared-slice-copy-out-put-2 c = let p = c .before .before in omega (arith, few (top p), s (top p) .pre .3, below p)
 
 put-requires-2 : tie.Need-put-requires-2 Inv-loop μ-loop
 put-requires-2 c κs = let p = c .before .before .before in omega (arith, ends (top p), below p, low-len p)
@@ -134,11 +145,11 @@ loop-again : tie.Need-loop-again Inv-loop μ-loop
 loop-again c =
     let q = c .before in
     let p = q .before .before .before .before in
-    let hi = word (s (top p) .args .t6) (d p) in
+    let hi = highs (top p) (d p) in
     let e = bits-back {z = hi} (q .before .put-arg4 .given) in (
       omega (arith, below p),
       subst (λ (ws : List ℤ). Written (first (top p)) (at (top p) + 1) ws (q .put2 .last .0) (q .put2 .result))
-          (append-assoc (so-far (top p)) (low-word p ∷ []) (hi ∷ []) ∙ sym (pairsBelow-more (d p) (word (s (top p) .args .t5)) (word (s (top p) .args .t6))))
+          (append-assoc (so-far (top p)) (low-word p ∷ []) (hi ∷ []) ∙ sym (pairsBelow-more (d p) (lows (top p)) (highs (top p))))
           (written-more (low-written p) (at (top p) + 2 + 2 * d p) hi (omega (arith, low-long p)) (omega (arith, ends (top p), below p))
           (q .put2 .ensures .0 ∙ ap (set (p .put .last .0) (at (top p) + 2 + 2 * d p)) e)
           (q .put2 .ensures .1 ∙ ap (λ (v : ℤ). p .put .result || not (eqZ (word (p .put .last .0) (at (top p) + 2 + 2 * d p)) v)) e)),
@@ -173,7 +184,7 @@ returns c =
     let l = done (c .before) in
     let a = s l .args in
     let q : l .loop .d ≡ axes (lentOf (now (a .block))) = omega (arith, l .before .axes-of .ensures, l .loop .inv .0, c .before .before .before .loop-test .left) in
-    (w .is ∙ ap₂ (λ (p m : ℕ). replaced (first l) p (pos (a .shapes) ∷ pairsBelow m (word (a .t5)) (word (a .t6)))) (s l .pre .2 .stands) q, w .tells)
+    (w .is ∙ ap₂ (λ (p m : ℕ). replaced (first l) p (pos (a .shapes) ∷ pairsBelow m (lows l) (highs l))) (s l .pre .2 .stands) q, w .tells)
 
 pub write-row-spec : {M : Type 1} → statement M
 write-row-spec =
@@ -187,13 +198,14 @@ write-row-spec =
     mul-put
     add-put-2
     mul-put-2
-    array-copy-out-put
+    shared-slice-copy-out-put
     put-requires
     add-put-3
     mul-put-3
     add-put-4
+    add-put-5
     mul-put-4
-    array-copy-out-put-2
+    shared-slice-copy-out-put-2
     put-requires-2
     add-d
     loop-less

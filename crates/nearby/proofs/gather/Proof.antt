@@ -1,5 +1,5 @@
 -- `gather` meets its contract: so far what the rules passed forbid is listed. Assumes nothing.
-use mathlib.Core.Path.{_≡_, refl, sym, _∙_, subst}
+use mathlib.Core.Path.{_≡_, refl, _∙_}
 use mathlib.Core.Bool.{false, _&&_}
 use Prim.Native.Nat.{_-_, _≤_}
 use native.Mathlib.Omega.{arith}
@@ -9,19 +9,18 @@ use lib.ListN.{length}
 use borrow.Author.Needs.{needs}
 use Rattle.integers.specs.Below.{anyBelow}
 use Rattle.integers.specs.Bits.{bit}
-use Rattle.sheet.specs.Layout.{lentOf, boxes, rules}
+use Rattle.sheet.specs.Layout.{lentOf, rules}
 use Rattle.forbid.specs.Region.{ruleForbids}
-use Rattle.nearby.specs.Hull.{HullTo}
-use Rattle.nearby.specs.Listing.{Asks, Gathered, Grows}
+use Rattle.nearby.specs.Listing.{Asks, Ready, areaAt, Open, Grows}
 use Rattle.nearby.proofs.Covers.{counted-forbid}
-use Rattle.nearby.proofs.Gathers.{grows-start, grows-more, open-after, gathered-start, listed-none}
+use Rattle.nearby.proofs.Gathers.{grows-start, grows-more, open-after, gathered-start, listed-none, ready-kept, area-written}
 use Rattle.nearby.proofs.gather.Statement.{statement}
 use Rattle.nearby.proofs.gather.Tie as tie
 
 abbrev Inv-loop : tie.InvT-loop
 Inv-loop block table list₀ s q counted n found₀ r₀ list found r =
-    (r ≤ n) × Gathered (lentOf block) table (q .i .number) (q .s) list found (q .area) (λ p. false)
-    × Grows (lentOf block) table (q .i .number) (q .s) (q .area)
+    (r ≤ n) × Open (lentOf block) table (q .i .number) (q .s) list found
+    × Grows (lentOf block) table (q .i .number) (q .s)
     (λ p. anyBelow r (λ m. bit (pos counted) m && ruleForbids (lentOf block) table (q .i .number) (q .s) m p)) list₀ found₀ list found
     × (length list ≡ length list₀)
 
@@ -34,51 +33,65 @@ returns c = let p = c .before .pre in (p .3, listed-none _ _ _ _ _ (p .3 .long))
 returns-2 : tie.Need-returns-2 Inv-loop μ-loop
 returns-2 c = let p = c .before .before .pre in (p .3, listed-none _ _ _ _ _ (p .3 .long))
 
-hull-at-requires : tie.Need-hull-at-requires Inv-loop μ-loop
-hull-at-requires c κs =
-    let b = c .before in
-    (b .before .before .pre .3 .long, omega (arith, b .before .if1 .left), omega (arith, b .if2 .left))
+put-four-requires : tie.Need-put-four-requires Inv-loop μ-loop
+put-four-requires c κs = omega (arith, c .before .before .before .before .before .pre .3 .long)
+
+add-put-four : tie.Need-add-put-four Inv-loop μ-loop
+add-put-four c = search needs
+
+put-four-requires-2 : tie.Need-put-four-requires-2 Inv-loop μ-loop
+put-four-requires-2 c κs =
+    let f = c .before .before in
+    omega (arith, f .put-four .ensures .0 .long, f .before .before .before .before .before .before .pre .3 .long)
+
+-- the area is written
+module _ (c : tie.After-put-four2 Inv-loop μ-loop) where
+  abbrev first : tie.After-put-four Inv-loop μ-loop
+  first = c .before .before .before
+
+  abbrev top : tie.Start Inv-loop μ-loop
+  top = c .before .before .before .before .before .before .before .before .before
+
+  ready : Ready (lentOf (now (top .args .block))) (c .put-four2 .last .0)
+  ready =
+      let s = top in
+      let head = s .pre .0 .head in
+      ready-kept (c .put-four2 .ensures .0) _ head (omega arith) (ready-kept (first .put-four .ensures .0) _ head (omega arith) (s .pre .3))
+
+  area-is : areaAt (c .put-four2 .last .0) ≡ top .args .area
+  area-is = area-written (first .put-four .ensures .1) (c .put-four2 .ensures .0) (c .put-four2 .ensures .1)
 
 set-at-requires : tie.Need-set-at-requires Inv-loop μ-loop
-set-at-requires c κs =
-    let p = c .before .before .before .before .before .pre in
-    (omega (arith, p .3 .long), p .3 .rules .count)
+set-at-requires c κs = let r = ready (c .before .before) in (omega (arith, r .long), r .rules .count)
 
 rules-of-requires : tie.Need-rules-of-requires Inv-loop μ-loop
-rules-of-requires c κs = c .before .before .before .before .before .before .pre .0 .head
+rules-of-requires c κs = top (c .before .before .before) .pre .0 .head
 
 -- before the loop
 module _ (c : tie.After-rules-of Inv-loop μ-loop) where
-  abbrev hull : tie.After-hull-at Inv-loop μ-loop
-  hull = c .before .before .before
+  abbrev written : tie.After-put-four2 Inv-loop μ-loop
+  written = c .before .before .before .before
 
-  abbrev top : tie.Start Inv-loop μ-loop
-  top = c .before .before .before .before .before .before .before
+  abbrev begin : tie.Start Inv-loop μ-loop
+  begin = top (c .before .before .before .before)
 
-  from : 1 ≤ top .args .s
-  from = omega (arith, hull .before .before .before .if1 .left)
-
-  upto : top .args .s ≤ 32
-  upto = omega (arith, hull .before .before .if2 .left)
-
-  asks : Asks (lentOf (now (top .args .block))) (now (top .args .table))
-      (record { i = top .args .i; s = top .args .s; hull = c .before .before .before .hull-at .result; area = top .args .area })
-  asks = record {
-    block = top .pre .0;
-    table = top .pre .1;
-    row = top .pre .2;
-    hull = subst (HullTo (lentOf (now (top .args .block))) (top .args .s) (boxes (lentOf (now (top .args .block))))) (sym (hull .hull-at .ensures))
-        (top .pre .3 .hulls (top .args .s) from upto);
-    from = from;
-    upto = upto;
-  }
+  asks : Asks (lentOf (now (begin .args .block))) (now (begin .args .table)) (record { i = begin .args .i; s = begin .args .s })
+  asks =
+      let b = first written .before .before .before .before in
+      record {
+        block = begin .pre .0;
+        table = begin .pre .1;
+        row = begin .pre .2;
+        from = omega (arith, b .before .if1 .left);
+        upto = omega (arith, b .if2 .left);
+      }
 
 loop-holds : tie.Need-loop-holds Inv-loop μ-loop
 loop-holds c =
-    let a = top c .args in (
+    let a = begin c .args in (
       omega arith,
-      gathered-start _ _ _ _ _ (top c .pre .3),
-      grows-start _ _ _ _ _ (λ m p. bit (pos (c .before .set-at .result)) m && ruleForbids (lentOf (now (a .block))) (now (a .table)) (a .i .number) (a .s) m p),
+      gathered-start _ _ _ _ (ready (written c)) refl,
+      grows-start _ _ _ _ (λ m p. bit (pos (c .before .set-at .result)) m && ruleForbids (lentOf (now (a .block))) (now (a .table)) (a .i .number) (a .s) m p),
       refl,
     )
 
@@ -99,31 +112,46 @@ loop-again c =
     let w = c .before in
     let l = w .before .before in
     let b = l .before .before in
-    let a = top b .args in (
+    let a = begin b .args in (
       omega (arith, l .loop-test .taken),
-      open-after _ _ _ _ _ (w .add-rule .ensures) (l .before .loop .inv .1),
-      grows-more _ _ _ _ _ (λ m p. bit (pos (b .before .set-at .result)) m && ruleForbids (lentOf (now (a .block))) (now (a .table)) (a .i .number) (a .s) m p)
+      open-after _ _ _ _ (w .add-rule .ensures) (l .before .loop .inv .1),
+      grows-more _ _ _ _ (λ m p. bit (pos (b .before .set-at .result)) m && ruleForbids (lentOf (now (a .block))) (now (a .table)) (a .i .number) (a .s) m p)
           (l .before .loop .inv .2) (w .add-rule .ensures),
-      c .list .given ∙ l .before .loop .inv .3,
+      c .list3 .given ∙ l .before .loop .inv .3,
     )
 
+-- the list is as long as it was
+long : (c : tie.After-loop Inv-loop μ-loop) → length (c .before .loop .list) ≡ length (now (begin (c .before .before) .args .list))
+long c =
+    let w = written (c .before .before) in
+    c .before .loop .inv .3 ∙ w .put-four2 .ensures .0 .long ∙ first w .put-four .ensures .0 .long
+
 same-length : tie.Need-same-length Inv-loop μ-loop
-same-length c = c .before .loop .inv .3
+same-length c = long (c .before)
 
 returns-3 : tie.Need-returns-3 Inv-loop μ-loop
 returns-3 c =
-    let l = c .before in
+    let l = c .before .before in
     let b = l .before in
-    let a = top b .args in
-    let q : l .loop .r ≡ rules (lentOf (now (a .block))) = omega (arith, b .rules-of .ensures, l .loop .inv .0, c .loop-test .left) in
-    let g = (rw q at (l .loop .inv .2)) .after (λ p. false) (gathered-start _ _ _ _ _ (top b .pre .3)) in (
+    let w = written b in
+    let a = begin b .args in
+    let q : l .loop .r ≡ rules (lentOf (now (a .block))) = omega (arith, b .rules-of .ensures, l .loop .inv .0, c .before .loop-test .left) in
+    let g = (rw q at (l .loop .inv .2)) .after (a .area) (λ p. false) (gathered-start _ _ _ _ (ready w) (area-is w)) in
+    let f = c .if3 .taken in (
       g .ready,
       λ p h. record {
-        fits = g .fits;
-        entries = g .entries;
-        met = λ w n f. g .met w p h n (counted-forbid _ _ _ _ _ (top b .pre .3 .rules) _ (b .before .set-at .ensures) p f);
+        fits = g .fits f;
+        entries = g .entries f;
+        solid = g .solid f;
+        met = λ u n k. g .met f p h n (counted-forbid _ _ _ _ _ (ready w .rules) _ (b .before .set-at .ensures) p k);
       },
     )
+
+same-length-2 : tie.Need-same-length-2 Inv-loop μ-loop
+same-length-2 c = long (c .before)
+
+returns-4 : tie.Need-returns-4 Inv-loop μ-loop
+returns-4 c = let r = c .before .before .loop .inv .1 .ready in (r, listed-none _ _ _ _ _ (r .long))
 
 pub gather-spec : {M : Type 1} → statement M
 gather-spec =
@@ -133,7 +161,9 @@ gather-spec =
     μ-loop
     returns
     returns-2
-    hull-at-requires
+    put-four-requires
+    add-put-four
+    put-four-requires-2
     set-at-requires
     rules-of-requires
     loop-holds
@@ -142,4 +172,6 @@ gather-spec =
     loop-less
     loop-again
     same-length
-    returns-3)
+    returns-3
+    same-length-2
+    returns-4)

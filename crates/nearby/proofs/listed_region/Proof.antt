@@ -53,6 +53,9 @@ module _ (l : tie.In-pairs Inv-loop μ-loop Inv-pairs μ-pairs) where
   abbrev top : tie.Start Inv-loop μ-loop Inv-pairs μ-pairs
   top = l .before .before .before .before
 
+  below-count : l .before .pairs .e < l .before .before .before .before .args .nearby .count
+  below-count = omega (arith, l .before .pairs .inv .0, l .pairs-test .taken)
+
   room : entryAt (suc (l .before .pairs .e)) ≤ length (now (l .before .before .before .before .args .list))
   room = omega (arith, top .pre .2 .fits, l .pairs-test .taken)
 
@@ -63,7 +66,7 @@ rival-at-requires : tie.Need-rival-at-requires Inv-loop μ-loop Inv-pairs μ-pai
 rival-at-requires c κs =
     let l = c .before .before in
     let p = top l .pre in
-    (p .0 .block, p .0 .table, room l, p .2 .entries _ (l .pairs-test .taken) .names)
+    (p .0 .block, p .0 .table, room l, p .2 .entries _ (below-count l) .names)
 
 first-of-requires : tie.Need-first-of-requires Inv-loop μ-loop Inv-pairs μ-pairs
 first-of-requires c κs =
@@ -191,7 +194,7 @@ returns-2 c =
     let l = line (b .before) in
     let x = rival (b .before) .rival-at in
     let h = and-true (sym (f .own-forbids .ensures) ∙ c .before .if2 .taken) in
-    forbids-by (λ q e. w .2 .entries (l .before .pairs .e) (l .pairs-test .taken) .sound .forbids (b .box-place .result .number) q
+    forbids-by (λ q e. w .2 .entries (l .before .pairs .e) (below-count l) .sound .forbids (b .box-place .result .number) q
     (places b .own .below) (h .0)
     (pair-same lent (now (a .table)) (a .i .number) (a .s) (b .box-place .result .number) q (x .ensures .3) (x .ensures .4) (x .ensures .5) e)) refl
     (cut-region (w .0 .block .head .few-axes) (w .0 .near) (h .1) (c .pair-area .ensures))

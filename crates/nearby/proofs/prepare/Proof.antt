@@ -20,11 +20,7 @@ write-hulls-requires c κs =
     let r = c .before .before in
     let x = r .before .before .before in
     let s = x .before .before in
-    let n = r .count-rules .ensures in (
-      s .pre .0,
-      omega (arith, n .1, x .index .ensures .1, s .pre .1),
-      index-kept (s .pre .0 .head) (λ y h. n .2 y (λ q. omega (arith, h, q))) (x .index .ensures .0),
-    )
+    (s .pre .0, omega (arith, r .count-rules .ensures .1, x .index .ensures .1, s .pre .1))
 
 same-length : tie.Need-same-length
 same-length c = search needs

@@ -1,34 +1,35 @@
--- `settle::settle_rows` meets its contract: the table is on the way, and a row whose flag is not set does not move. Assumes nothing.
-use mathlib.Core.Path.{_≡_, refl, _∙_}
+-- `settle::settle_rows` meets its contract: the table is on the way, and a row that is not to be narrowed does not move. Assumes nothing.
+use mathlib.Core.Path.{_≡_, refl, sym, ap, _∙_}
 use mathlib.Core.Logic.{⊎-elim}
-use mathlib.Core.Bool.{true, false}
+use mathlib.Core.Bool.{true}
 use Prim.Native.Nat.{ℕ, _≤_, _<_}
 use native.Mathlib.Nat.{eq-or-lt-of-le}
 use native.Mathlib.Omega.{arith}
 use borrow.Author.Needs.{needs}
-use lib.ListN.{length, set, replicate, getD-replicate}
+use lib.IntN.{pos}
+use lib.ListN.{length, replicate, getD-replicate, length-set}
 use Rattle.integers.proofs.Booleans.{clash}
 use Rattle.sheet.specs.Layout.{Lent, lentOf, axes, rows}
 use Rattle.sheet.specs.Accepted.{Table}
 use Rattle.sheet.proofs.Accepted.{rows-same}
 use Rattle.nearby.specs.Listing.{Ready}
 use Rattle.settle.specs.Todo.{todo, OnTheWay, toGo}
+use Rattle.settle.proofs.Turns.{todo-yes}
 use Rattle.settle.proofs.Worked.{worked-start, worked-end}
 use Rattle.settle.proofs.Steps.{cleared, Turn, turn-none, turn-still, still-less, turn-good, turn-moved, moved-less}
 use Rattle.settle.proofs.settle_rows.Statement.{statement}
 use Rattle.settle.proofs.settle_rows.Tie as tie
 
 abbrev Inv-loop : tie.InvT-loop
-Inv-loop block table₀ list₀ n flags₀ at₀ table list flags at =
-    OnTheWay (lentOf block) table₀ table flags × (n ≡ rows (lentOf block) table₀) × (at ≤ n)
-    × Ready (lentOf block) list × (length list ≡ length list₀)
+Inv-loop block table₀ list₀ n due₀ at₀ table list due at =
+    OnTheWay (lentOf block) table₀ table due × (n ≡ rows (lentOf block) table₀) × (at ≤ n)
+    × Ready (lentOf block) list × (length list ≡ length list₀) × (length due ≡ 32)
 
 abbrev μ-loop : tie.MeasureT-loop
-μ-loop block table₀ list₀ n flags₀ at₀ table list flags at = toGo (lentOf block) (rows (lentOf block) table₀) table flags
+μ-loop block table₀ list₀ n due₀ at₀ table list due at = toGo (lentOf block) (rows (lentOf block) table₀) table due
 
-all-set : (m : ℕ) → m < 32 → todo (record { rows = replicate 32 true }) m ≡ true
-unfolding todo
-all-set m h = getD-replicate 32 m true false h
+all-set : (m : ℕ) → m < 32 → todo (replicate 32 (pos 1)) m ≡ true
+all-set m h = todo-yes (replicate 32 (pos 1)) m (getD-replicate 32 m (pos 1) (pos 0) h)
 
 -- what is known where the loop starts a turn
 module _ (l : tie.At-loop Inv-loop μ-loop) where
@@ -48,7 +49,7 @@ module _ (l : tie.At-loop Inv-loop μ-loop) where
   table = l .loop .inv .0 .way .good .table
 
 -- a row is to be narrowed
-not-last : (e : tie.Else1 Inv-loop μ-loop) → e .before .next-row .result < e .before .before .before .rows-of .result
+not-last : (e : tie.Else1 Inv-loop μ-loop) → e .before .next-row .result < e .before .before .before .before .rows-of .result
 not-last e = ⊎-elim (λ q. absurd (e .if1 .left q)) (λ h. h) (eq-or-lt-of-le (e .before .next-row .ensures .upto))
 
 -- and was narrowed
@@ -57,9 +58,9 @@ module _ (d : tie.After-narrow-row Inv-loop μ-loop) where
   e = d .before .before .before .before .before
 
   abbrev l : tie.At-loop Inv-loop μ-loop
-  l = e .before .before
+  l = e .before .before .before
 
-  turn : Turn (lent l) (s l .args .table .now) (l .loop .table) (d .narrow-row .last .1 .0) (l .loop .flags) (e .before .next-row .result)
+  turn : Turn (lent l) (s l .args .table .now) (l .loop .table) (d .narrow-row .last .1 .0) (l .loop .due) (e .before .next-row .result)
       (d .before .before .before .row-place .result .number) (d .narrow-row .result)
   turn =
       record {
@@ -85,39 +86,43 @@ loop-holds c =
       omega arith,
       s .pre .2,
       refl,
+      refl,
     )
 
+slice-aggregate-next-row : tie.Need-slice-aggregate-next-row Inv-loop μ-loop
+slice-aggregate-next-row c = sym (c .before .loop .inv .5)
+
 next-row-requires : tie.Need-next-row-requires Inv-loop μ-loop
-next-row-requires c κs = (few c, c .loop .inv .2)
+next-row-requires c κs = let l = c .before in (few l, l .loop .inv .2, l .loop .inv .5)
 
 same-length : tie.Need-same-length Inv-loop μ-loop
-same-length c = c .before .before .loop .inv .0 .way .good .as-long
+same-length c = c .before .before .before .loop .inv .0 .way .good .as-long
 
 same-length-2 : tie.Need-same-length-2 Inv-loop μ-loop
-same-length-2 c = c .before .before .loop .inv .4
+same-length-2 c = c .before .before .before .loop .inv .4
 
 returns : tie.Need-returns Inv-loop μ-loop
 returns c =
-    let l = c .before .before in
+    let l = c .before .before .before in
     record {
-      yes = λ e. worked-end (lent l) (dims l) (s l .args .table .now) (l .loop .table) (l .loop .flags) (l .loop .inv .0)
+      yes = λ e. worked-end (lent l) (dims l) (s l .args .table .now) (l .loop .table) (l .loop .due) (l .loop .inv .0)
           (λ m h. c .before .next-row .ensures .none (c .if1 .taken) m (omega (arith, h, l .loop .inv .1)));
       no = λ e. clash refl e;
     }
 
 add-row-place : tie.Need-add-row-place Inv-loop μ-loop
-add-row-place c = omega (arith, not-last (c .before), few (c .before .before .before))
+add-row-place c = omega (arith, not-last (c .before), few (c .before .before .before .before))
 
 row-place-requires : tie.Need-row-place-requires Inv-loop μ-loop
 row-place-requires c κs =
-    let l = c .before .before .before in
+    let l = c .before .before .before .before in
     let n = rows-same (lent l) (l .loop .table) (s l .args .table .now) (l .loop .inv .0 .way .good .as-long) in
     (s l .pre .0 .head, table l .whole, omega arith, omega (arith, not-last (c .before), l .loop .inv .1, n))
 
 narrow-row-requires : tie.Need-narrow-row-requires Inv-loop μ-loop
 narrow-row-requires c κs =
     let r = c .before .before in
-    let l = r .before .before .before .before in
+    let l = r .before .before .before .before .before in
     (s l .pre .0, table l, r .row-place .ensures .0, l .loop .inv .3)
 
 enum-told : tie.Need-enum-told Inv-loop μ-loop
@@ -138,9 +143,12 @@ enum-told-2 c = search needs
 enum-told-3 : tie.Need-enum-told-3 Inv-loop μ-loop
 enum-told-3 c = search needs
 
+slice-aggregate-touched : tie.Need-slice-aggregate-touched Inv-loop μ-loop
+slice-aggregate-touched c = sym (l (c .before .before .before .before .before .before .before) .loop .inv .5)
+
 touched-requires : tie.Need-touched-requires Inv-loop μ-loop
 touched-requires c κs =
-    let told = c .before .before in
+    let told = c .before .before .before in
     let d = told .before .before .before .before in
     let place = d .before .before .before .row-place .ensures .0 in
     let good = turn-good (turn d) (told .enum-told3 .given .1) in
@@ -152,17 +160,21 @@ touched-requires c κs =
         row = record { from = place .from; upto = omega (arith, turn d .number, turn d .below, as-many); stands = place .stands };
       },
       omega (arith, l d .loop .inv .1, as-many),
+      l d .loop .inv .5,
     )
 
-element-write-flags : tie.Need-element-write-flags Inv-loop μ-loop
-element-write-flags c = let d = c .before .before .before in omega (arith, not-last (e d), few (l d))
+mul-due : tie.Need-mul-due Inv-loop μ-loop
+mul-due c = let d = c .before .before .before in omega (arith, not-last (e d), few (l d))
+
+array-set-of-due : tie.Need-array-set-of-due Inv-loop μ-loop
+array-set-of-due c = let d = c .before .before .before in omega (arith, not-last (e d), few (l d))
 
 loop-less : tie.Need-loop-less Inv-loop μ-loop
 loop-less c =
     let d = c .before .before .before in
     ⊎-elim
     (λ a. still-less (turn d) (a .1 .given .1) (a .2) (e d .before .next-row .ensures .set (not-last (e d))))
-    (λ a. moved-less (turn d) (a .1 .given .1) (cleared (c .match .flags) (e d .before .next-row .result)))
+    (λ a. moved-less (turn d) (a .1 .given .1) (cleared (c .match .due) (e d .before .next-row .result)))
     (c .match .came)
 
 loop-again : tie.Need-loop-again Inv-loop μ-loop
@@ -170,12 +182,13 @@ loop-again c =
     let d = c .before .before .before in (
       ⊎-elim
           (λ a. turn-still (turn d) (a .1 .given .1) (a .2))
-          (λ a. turn-moved (turn d) (a .1 .given .1) (a .5) (l d .loop .inv .1) (a .4 .ensures))
+          (λ a. turn-moved (turn d) (a .1 .given .1) (a .7) (l d .loop .inv .1) (a .5 .ensures))
           (c .match .came),
       l d .loop .inv .1,
       e d .before .next-row .ensures .upto,
       d .narrow-row .ensures .2,
       c .before .list .given ∙ l d .loop .inv .4,
+      simp length-set (⊎-elim (λ a. ap length (a .2) ∙ l d .loop .inv .5) (λ a. ap length (a .7) ∙ a .6 .given) (c .match .came)),
     )
 
 pub settle-rows-spec : {M : Type 1} → statement M
@@ -186,6 +199,7 @@ settle-rows-spec =
     μ-loop
     rows-of-requires
     loop-holds
+    slice-aggregate-next-row
     next-row-requires
     same-length
     same-length-2
@@ -199,7 +213,9 @@ settle-rows-spec =
     returns-2
     enum-told-2
     enum-told-3
+    slice-aggregate-touched
     touched-requires
-    element-write-flags
+    mul-due
+    array-set-of-due
     loop-less
     loop-again)

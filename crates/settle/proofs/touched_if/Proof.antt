@@ -1,5 +1,6 @@
 -- `settle::touched_if` meets its contract: a rule that does not count says nothing here. Assumes nothing.
 use mathlib.Core.Path.{sym, _∙_}
+use borrow.Author.Needs.{needs}
 use Rattle.integers.proofs.Booleans.{clash, not-true}
 use Rattle.settle.proofs.Turns.{untouched, touched-so}
 use Rattle.settle.proofs.touched_if.Statement.{statement}
@@ -12,10 +13,13 @@ returns : tie.Need-returns
 returns c = untouched (λ m h k. clash k (sym (c .before .rule-counts .ensures) ∙ not-true (c .if1 .taken)))
 
 touched-with-requires : tie.Need-touched-with-requires
-touched-with-requires c κs = c .before .before .pre
+touched-with-requires c κs = c .before .before .before .pre
+
+same-length : tie.Need-same-length
+same-length c = search needs
 
 returns-2 : tie.Need-returns-2
-returns-2 c = touched-so (c .touched-with .ensures) (λ m h spared k. spared)
+returns-2 c = touched-so (c .before .touched-with .ensures) (λ m h spared k. spared)
 
 pub touched-if-spec : {M : Type 1} → statement M
-touched-if-spec = tie.close (tie.spec rule-counts-requires returns touched-with-requires returns-2)
+touched-if-spec = tie.close (tie.spec rule-counts-requires returns touched-with-requires same-length returns-2)

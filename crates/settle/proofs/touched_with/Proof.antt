@@ -2,6 +2,7 @@
 use mathlib.Core.Path.{sym, ap, _∙_, subst}
 use Prim.Native.Nat.{ℕ}
 use native.Mathlib.Omega.{arith}
+use borrow.Author.Needs.{needs}
 use Rattle.integers.proofs.Booleans.{clash, not-true}
 use Rattle.sheet.specs.Layout.{lentOf, isNonOverlap, namesRow}
 use Rattle.settle.specs.Todo.{Spared, Touched}
@@ -41,16 +42,21 @@ returns-2 c =
 
 touched-by-requires : tie.Need-touched-by-requires
 touched-by-requires c κs =
-    let d = c .before .before .before .before in
+    let d = c .before .before .before .before .before in
     let s = d .before in
-    (s .pre .0, s .pre .1, d .rule-place .ensures .0)
+    (s .pre .0, s .pre .1, d .rule-place .ensures .0, s .pre .3)
+
+same-length : tie.Need-same-length
+same-length c = search needs
 
 returns-3 : tie.Need-returns-3
 returns-3 c =
-    let d = c .before .before .before .before .before in
+    let b = c .before in
+    let d = b .before .before .before .before .before .before in
     let a = d .before .args in
-    subst (λ (r : ℕ). Touched (a .n) (a .flags) (Spared (lentOf (a .block .now)) (a .table .now) (a .i .number) r) (c .touched-by .result))
-    (d .rule-place .ensures .1) (c .touched-by .ensures)
+    subst (λ (r : ℕ). Touched (a .n) (a .due .now) (Spared (lentOf (a .block .now)) (a .table .now) (a .i .number) r)
+    (b .touched-by .last .1 .1 .1 .0))
+    (d .rule-place .ensures .1) (b .touched-by .ensures)
 
 pub touched-with-spec : {M : Type 1} → statement M
 touched-with-spec =
@@ -62,4 +68,5 @@ touched-with-spec =
     names-row-requires
     returns-2
     touched-by-requires
+    same-length
     returns-3)

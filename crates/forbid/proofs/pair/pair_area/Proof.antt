@@ -1,54 +1,117 @@
 -- `pair::pair_area` meets its contract: so far the field is cut in each dimension passed. Assumes nothing.
-use mathlib.Core.Path.{_≡_}
-use Prim.Native.Nat.{_≤_, _-_}
+use mathlib.Core.Path.{_≡_, sym, ap₂, _∙_}
+use mathlib.Core.Logic.{⊎-elim}
+use mathlib.Core.Bool.{Bool}
+use mathlib.Core.List.{List}
+use Prim.Native.Nat.{ℕ, _≤_, _<_, _-_}
 use native.Mathlib.Omega.{arith}
 use denote.Ref.{now}
-use Rattle.integers.specs.Below.{allBelow}
+use lib.IntN.{ℤ}
+use lib.ListN.{length, length-set}
+use borrow.Author.Needs.{needs}
+use Rattle.integers.specs.Integer.{within}
 use Rattle.integers.specs.Words.{word}
-use Rattle.sheet.specs.Layout.{lentOf, dims, axes}
+use Rattle.integers.proofs.Booleans.{implies-in, implies-out}
+use Rattle.integers.proofs.Ints.{ints}
+use Rattle.integers.proofs.Machine.{within-by}
+use Rattle.sheet.specs.Layout.{Lent, lentOf, dims, axes}
 use Rattle.sheet.specs.Allowed.{pairForbids}
-use Rattle.region.specs.Area.{Cuts, fieldArea}
-use Rattle.region.proofs.Cut.{cuts-zero, cuts-more}
+use Rattle.sheet.proofs.Forbidden.{axis}
+use Rattle.region.specs.Area.{coordinates, fieldArea}
+use Rattle.region.proofs.Sums.{near-back}
+use Rattle.region.proofs.Fills.{Fills, fills-none, fills-skip, fills-set}
+use Rattle.forbid.specs.declared.pair.Pair.{Pair}
 use Rattle.forbid.specs.Pair.{sideForbids}
 use Rattle.forbid.proofs.pair.pair_area.Statement.{statement}
 use Rattle.forbid.proofs.pair.pair_area.Tie as tie
 
+-- the pair forbids p in dimension d, if the rule names d
+abbrev inSide : Lent → List ℤ → Pair → ℕ → List ℤ → Bool
+inSide lent t x d p = sideForbids lent t x d (word p d)
+
 abbrev Inv-loop : tie.InvT-loop
-Inv-loop block table pair k area₀ d₀ area d =
-    (d ≤ k) × Cuts (axes (lentOf block)) fieldArea area (λ p. allBelow d (λ e. sideForbids (lentOf block) table pair e (word p e)))
+Inv-loop block table pair k r low₀ high₀ d₀ low high d =
+    (d ≤ k) × (length low ≡ coordinates) × (length high ≡ coordinates)
+    × Fills (axes (lentOf block)) d (record { low = low; high = high }) (inSide (lentOf block) table pair)
 
 abbrev μ-loop : tie.MeasureT-loop
-μ-loop block table pair k area₀ d₀ area d = k - d
+μ-loop block table pair k r low₀ high₀ d₀ low high d = k - d
 
 dims-of-requires : tie.Need-dims-of-requires Inv-loop μ-loop
 dims-of-requires c κs = c .pre .block .head
 
-field-requires : tie.Need-field-requires Inv-loop μ-loop
-field-requires c κs = tt
+sub-low : tie.Need-sub-low Inv-loop μ-loop
+sub-low c = omega ints
 
 loop-holds : tie.Need-loop-holds Inv-loop μ-loop
-loop-holds c = (omega arith, rw (c .field .ensures) (cuts-zero _))
+unfolding fieldArea
+loop-holds c = (omega arith, search needs, search needs, fills-none _)
 
-cut-by-side-requires : tie.Need-cut-by-side-requires Inv-loop μ-loop
-cut-by-side-requires c κs =
-    let n = c .before .before .before in
-    (n .before .pre, omega (arith, n .dims-of .ensures, c .loop-test .taken))
+-- the dimension at hand is one of the sheet's
+module _ (c : tie.In-loop Inv-loop μ-loop) where
+  abbrev top : tie.Start Inv-loop μ-loop
+  top = c .before .before .before .before
+
+  is-dim : c .before .loop .d < dims (lentOf (now (c .before .before .before .before .args .block)))
+  is-dim = omega (arith, c .before .before .before .dims-of .ensures, c .loop-test .taken)
+
+  few : c .before .loop .d < coordinates
+  few = omega (arith, is-dim, top .pre .block .head .few-dims)
+
+names-dim-requires : tie.Need-names-dim-requires Inv-loop μ-loop
+names-dim-requires c κs = let w = top c .pre in (w .block .head, w .rule, w .block .dim-sets _ (w .rule .below), is-dim c)
+
+interval-of-requires : tie.Need-interval-of-requires Inv-loop μ-loop
+interval-of-requires c κs = let l = c .before .before in (top l .pre, is-dim l)
+
+mul-low : tie.Need-mul-low Inv-loop μ-loop
+mul-low c = omega (arith, few (c .before .before .before .before .before))
+
+array-set-from-low : tie.Need-array-set-from-low Inv-loop μ-loop
+array-set-from-low c = let l = c .before .before .before .before .before in omega (arith, few l, l .before .loop .inv .1)
+
+mul-high : tie.Need-mul-high Inv-loop μ-loop
+mul-high c = omega (arith, few (c .before .before .before .before .before))
+
+array-set-from-high : tie.Need-array-set-from-high Inv-loop μ-loop
+array-set-from-high c = let l = c .before .before .before .before .before in omega (arith, few l, l .before .loop .inv .2)
 
 add-d : tie.Need-add-d Inv-loop μ-loop
-add-d c = omega arith
+add-d c = omega (arith, few (c .before .before))
 
 loop-less : tie.Need-loop-less Inv-loop μ-loop
-loop-less c = omega arith
+loop-less c = omega (arith, c .before .before .loop-test .taken)
 
 loop-again : tie.Need-loop-again Inv-loop μ-loop
-loop-again c = (omega arith, cuts-more _ (c .before .before .loop .inv .1) (c .cut-by-side .ensures))
+unfolding sideForbids
+loop-again c =
+    let n = c .before in
+    let l = n .before in
+    let i = l .before .loop .inv in
+    let d = l .before .loop .d in
+    let s = top l in
+    let x = axis (lentOf (now (s .args .block))) (is-dim l) in (
+      omega (arith, l .loop-test .taken),
+      ⊎-elim (λ w. rw (w .4) (simp length-set (i .1))) (λ w. rw (w .1) (i .1)) (c .if1 .came),
+      ⊎-elim (λ w. rw (w .5) (simp length-set (i .2))) (λ w. rw (w .2) (i .2)) (c .if1 .came),
+      ⊎-elim
+          (λ w. let f = w .1 .ensures in
+          let from = near-back (f .from-within) in
+          let to = near-back (f .to-within) in
+          rw (w .4, w .5) (fills-set _ (i .3) (within-by from (f .from-within)) (within-by to (f .to-within)) (few l) x (i .1) (i .2)
+          (λ p. ap₂ (λ (y z : ℤ). within y z (word p d)) (from ∙ f .from) (to ∙ f .to)
+          ∙ sym (implies-in _ (sym (n .names-dim .ensures) ∙ w .0 .taken)))))
+          (λ w. rw (w .1, w .2) (fills-skip _ (i .3) (λ p. implies-out _ (sym (n .names-dim .ensures) ∙ w .0 .left))))
+          (c .if1 .came),
+    )
 
 returns : tie.Need-returns Inv-loop μ-loop
 unfolding pairForbids sideForbids
 returns c =
     let l = c .before in
-    let q : l .loop .d ≡ dims (lentOf (now (l .before .before .before .args .block))) = omega (arith, l .before .before .dims-of .ensures) in
-    rw q at (l .loop .inv .1)
+    let n = l .before .before in
+    let q : l .loop .d ≡ dims (lentOf (now (n .before .args .block))) = omega (arith, n .dims-of .ensures, l .loop .inv .0, c .loop-test .left) in
+    rw q at (l .loop .inv .3 .cuts)
 
 pub pair-area-spec : {M : Type 1} → statement M
 pair-area-spec =
@@ -57,9 +120,14 @@ pair-area-spec =
     Inv-loop
     μ-loop
     dims-of-requires
-    field-requires
+    sub-low
     loop-holds
-    cut-by-side-requires
+    names-dim-requires
+    interval-of-requires
+    mul-low
+    array-set-from-low
+    mul-high
+    array-set-from-high
     add-d
     loop-less
     loop-again

@@ -1,11 +1,10 @@
 -- `hull::row_hull` meets its contract: so far the hull is that of the shapes passed. Assumes nothing.
-use mathlib.Core.Path.{_≡_, refl, _∙_, subst}
+use mathlib.Core.Path.{_≡_, refl, sym, _∙_, subst}
 use Prim.Native.Nat.{ℕ, _+_, _^_, _≤_, _<_, _-_}
 use native.Mathlib.Numerals.{add-one}
 use native.Mathlib.Omega.{arith}
 use denote.Ref.{now}
 use lib.ListN.{length}
-use Rattle.integers.proofs.Ints.{ints}
 use Rattle.sheet.specs.Layout.{lentOf}
 use Rattle.accept.proofs.Asked.{set-count}
 use Rattle.nearby.specs.Listing.{Ready}
@@ -15,14 +14,11 @@ use Rattle.narrow.proofs.hull.row_hull.Statement.{statement}
 use Rattle.narrow.proofs.hull.row_hull.Tie as tie
 
 abbrev Inv-loop : tie.InvT-loop
-Inv-loop block table list₀ i set hull₀ s₀ list hull s =
-    (s ≤ 32) × HullTo (lentOf block) table (i .number) s hull × Ready (lentOf block) list × (length list ≡ length list₀)
+Inv-loop block table list₀ ends₀ i set shapes₀ s₀ list ends shapes s =
+    (s ≤ 32) × HullTo (lentOf block) table (i .number) s shapes ends × Ready (lentOf block) list × (length list ≡ length list₀) × (length ends ≡ 8)
 
 abbrev μ-loop : tie.MeasureT-loop
-μ-loop block table list₀ i set hull₀ s₀ list hull s = 32 - s
-
-sub-high : tie.Need-sub-high Inv-loop μ-loop
-sub-high c = omega ints
+μ-loop block table list₀ ends₀ i set shapes₀ s₀ list ends shapes s = 32 - s
 
 shapes-of-requires : tie.Need-shapes-of-requires Inv-loop μ-loop
 shapes-of-requires c κs = let p = c .pre in (p .0 .head, p .1 .whole, p .2, set-count (p .1) (p .2 .from) (p .2 .upto))
@@ -31,7 +27,7 @@ loop-holds : tie.Need-loop-holds Inv-loop μ-loop
 loop-holds c =
     let s = c .before in
     let a = s .args in
-    (omega arith, hull-start (lentOf (now (a .block))) (now (a .table)) (a .i .number) (s .pre .0 .head .few-axes), s .pre .3, refl)
+    (omega arith, hull-start (lentOf (now (a .block))) (now (a .table)) (a .i .number) (s .pre .4), s .pre .5, refl, s .pre .3)
 
 is-below-requires : tie.Need-is-below-requires Inv-loop μ-loop
 is-below-requires c κs = c .loop-test .taken
@@ -39,42 +35,52 @@ is-below-requires c κs = c .loop-test .taken
 same-length : tie.Need-same-length Inv-loop μ-loop
 same-length c = c .before .before .before .loop .inv .3
 
+same-length-2 : tie.Need-same-length-2 Inv-loop μ-loop
+same-length-2 c = let l = c .before .before .before in l .loop .inv .4 ∙ sym (l .before .before .pre .3)
+
 -- no shape is left
 returns : tie.Need-returns Inv-loop μ-loop
 returns c =
     let b = c .before in
     let l = b .before .before in
-    let s = l .before .before in
-    let a = s .args in
-    let lent = lentOf (now (a .block)) in
-    let h = b .is-below .ensures (c .if1 .taken) in
+    let a = l .before .before .args in
+    let h = b .is-below .ensures .0 (c .if1 .taken) in
     let q : l .loop .s + (32 - l .loop .s) ≡ 32 = omega (arith, l .loop .inv .0) in (
-      rw q at (hull-rest lent (now (a .table)) (a .i .number) (l .loop .s) (l .loop .hull)
+      rw q at (hull-rest (lentOf (now (a .block))) (now (a .table)) (a .i .number) (l .loop .s) (l .loop .shapes) (l .loop .ends)
           (subst (λ (n : ℕ). n < 2 ^ l .loop .s) (l .before .shapes-of .ensures) h) (l .loop .inv .1) (32 - l .loop .s)),
       l .loop .inv .2,
     )
 
-with-shape-requires : tie.Need-with-shape-requires Inv-loop μ-loop
-with-shape-requires c κs =
-    let t = c .before .before .before in
+with-next-requires : tie.Need-with-next-requires Inv-loop μ-loop
+with-next-requires c κs =
+    let t = c .before .before .before .before in
     let l = t .before in
-    let s = l .before .before in
-    (s .pre .0, s .pre .1, s .pre .2, t .loop-test .taken, l .loop .inv .1, l .loop .inv .2)
+    let p = l .before .before .pre in
+    (p .0, p .1, p .2, t .loop-test .taken, l .before .shapes-of .ensures, l .loop .inv .4, l .loop .inv .1, l .loop .inv .2)
 
 add-s : tie.Need-add-s Inv-loop μ-loop
-add-s c = omega (arith, c .before .before .before .before .before .loop-test .taken)
+add-s c = omega (arith, c .before .before .before .before .before .before .before .loop-test .taken)
 
 loop-less : tie.Need-loop-less Inv-loop μ-loop
-loop-less c = omega (arith, c .before .before .before .before .before .loop-test .taken)
+loop-less c = omega (arith, c .before .before .before .before .before .before .before .loop-test .taken)
 
 loop-again : tie.Need-loop-again Inv-loop μ-loop
 loop-again c =
-    let w = c .before in
-    let l = w .before .before .before .before in
-    (omega (arith, l .loop-test .taken), rw add-one (w .with-shape .ensures .0), w .with-shape .ensures .1, c .list .given ∙ l .before .loop .inv .3)
+    let n = c .before in
+    let w = n .before in
+    let l = w .before .before .before .before .before in (
+      omega (arith, l .loop-test .taken),
+      rw add-one (w .with-next .ensures .0),
+      w .with-next .ensures .1,
+      n .list .given ∙ l .before .loop .inv .3,
+      c .ends .given ∙ l .before .loop .inv .4,
+    )
 
-same-length-2 : tie.Need-same-length-2 Inv-loop μ-loop
-same-length-2 c = c .before .loop .inv .3
+same-length-3 : tie.Need-same-length-3 Inv-loop μ-loop
+same-length-3 c = c .before .loop .inv .3
+
+same-length-4 : tie.Need-same-length-4 Inv-loop μ-loop
+same-length-4 c = c .before .loop .inv .4 ∙ sym (c .before .before .before .pre .3)
 
 returns-2 : tie.Need-returns-2 Inv-loop μ-loop
 returns-2 c =
@@ -88,14 +94,15 @@ row-hull-spec =
     Inv-loop
     μ-loop
     shapes-of-requires
-    sub-high
     loop-holds
     is-below-requires
     same-length
+    same-length-2
     returns
-    with-shape-requires
+    with-next-requires
     add-s
     loop-less
     loop-again
-    same-length-2
+    same-length-3
+    same-length-4
     returns-2)

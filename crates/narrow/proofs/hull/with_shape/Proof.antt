@@ -1,27 +1,26 @@
--- `hull::with_shape` meets its contract: a shape without a point leaves the hull as it is. Assumes nothing.
-use mathlib.Core.Path.{_≡_, sym, ap, _∙_, subst}
+-- `hull::with_shape` meets its contract: a shape without a point leaves the ends as they are. Assumes nothing.
+use mathlib.Core.Path.{_≡_, sym, ap, _∙_}
+use mathlib.Core.Logic.{inl}
 use mathlib.Core.Bool.{true, false}
 use mathlib.Core.List.{List}
-use mathlib.Core.Option.{Option, none, some}
 use Prim.Native.Nat.{ℕ, suc}
 use native.Mathlib.Numerals.{add-one}
 use native.Mathlib.Omega.{arith}
 use denote.Ref.{now}
 use lib.IntN.{ℤ}
-use mir.Syntax.{w64}
-use mir.Val.{SFits}
-use mir.Facts.{toZ-ofZ}
-use Rattle.integers.proofs.Booleans.{clash, not-true, not-false}
-use Rattle.sheet.specs.Layout.{Lent, lentOf, axes, hasShape}
-use Rattle.sheet.specs.Bounds.{Extreme}
-use Rattle.accept.proofs.Asked.{set-count}
+use Rattle.integers.proofs.Booleans.{not-true, not-false}
+use Rattle.sheet.specs.Layout.{Lent, lentOf, axes}
+use Rattle.sheet.specs.Allowed.{allowed}
+use Rattle.sheet.specs.Narrow.{Stands, keepsShape}
 use Rattle.region.specs.declared.Area.{Area}
 use Rattle.region.specs.Area.{inArea}
 use Rattle.region.specs.Rooms.{CutBox}
-use Rattle.bounds.specs.Search.{Ahead, freeIn, coordinate}
-use Rattle.narrow.specs.Hulls.{HullTo}
-use Rattle.narrow.proofs.Widens.{none-free, free-allowed, found-at, found-none}
-use Rattle.narrow.proofs.Hulls.{hull-skip, hull-none}
+use Rattle.bounds.specs.Search.{Sighted}
+use Rattle.bounds.proofs.Cutting.{cut-free}
+use Rattle.narrow.specs.Ends.{Ends}
+use Rattle.narrow.proofs.Taking.{taken-edges}
+use Rattle.narrow.proofs.Widens.{none-allowed}
+use Rattle.narrow.proofs.Hulls.{kept-shape, kept-not, ends-skip}
 use borrow.Author.Needs.{needs}
 use Rattle.narrow.proofs.hull.with_shape.Statement.{statement}
 use Rattle.narrow.proofs.hull.with_shape.Tie as tie
@@ -39,18 +38,18 @@ module _ (c : tie.Start) where
   abbrev next : ℕ
   next = suc (c .args .s)
 
-  abbrev Done : Type 0
-  Done = HullTo lent table row next (c .args .hull)
+  -- the shape has no point
+  skipped : ((p : List ℤ) → allowed lent table row next p ≡ true → ⊥)
+      → (false ≡ keepsShape lent table row next) × Ends lent table row next (now (c .args .ends))
+  skipped none-of =
+      (sym (kept-not lent table row (c .args .s) (λ p h a. none-of p a)), ends-skip lent table row (c .args .s) (λ p h a. none-of p a) (c .pre .6))
 
 module _ (c : tie.After-holds) where
   abbrev s : tie.Start
-  s = c .before .before .before .before .before .before
+  s = c .before .before .before .before
 
   abbrev cut : Area
   cut = c .before .before .cut-box .result
-
-  held : hasShape (lent s) (table s) (row s) (next s) ≡ true
-  held = rw add-one at (sym (c .before .before .before .before .before .has-shape .ensures) ∙ not-false (c .before .before .before .before .if1 .left))
 
   box : CutBox (lent s) (table s) (row s) (next s) cut
   box = rw add-one at (c .before .before .cut-box .ensures)
@@ -58,30 +57,17 @@ module _ (c : tie.After-holds) where
   tested : c .holds .result ≡ inArea (axes (lent s)) cut (cut .low)
   tested = c .holds .ensures ∙ ap (λ (k : ℕ). inArea k cut (cut .low)) (c .before .before .before .axes-of .ensures)
 
-  -- nothing is found
-  nothing : Extreme (Ahead false) (freeIn (lent s) (table s) (row s) (next s) cut) 0 none → Done s
-  nothing x = hull-none (lent s) (table s) (row s) (s .args .s) (s .args .hull) (s .pre .4) (free-allowed (lent s) (table s) (row s) (next s) cut box none x)
+-- the search
+module _ (c : tie.After-search) where
+  abbrev b : tie.After-holds
+  b = c .before .before .before .before .before .before
 
--- the search, and what it found
-found : (c : tie.After-search) (o : Option ℤ) → coordinate (c .search .result) ≡ o → let b = c .before .before .before .before .before .before in
-    Extreme (Ahead false) (freeIn (lent (s b)) (table (s b)) (row (s b)) (next (s b)) (cut b)) 0 o
-found c o e =
-    let b = c .before .before .before .before .before .before in
-    subst (λ (x : Option ℤ). Extreme (Ahead false) (freeIn (lent (s b)) (table (s b)) (row (s b)) (next (s b)) (cut b)) 0 x) e (rw add-one at (c .search .ensures))
+  sighted : Sighted false (lent (s b)) (table (s b)) (row (s b)) (next (s b)) (cut b) 0 (c .search .result)
+  sighted = rw add-one at (c .search .ensures)
 
-add-has-shape : tie.Need-add-has-shape
-add-has-shape c = search needs
-
-has-shape-requires : tie.Need-has-shape-requires
-has-shape-requires c κs = (c .pre .0 .head, c .pre .1 .whole, c .pre .2, set-count (c .pre .1) (c .pre .2 .from) (c .pre .2 .upto), omega arith, omega (arith, c .pre .3))
-
-returns : tie.Need-returns
-returns c =
-    let s = c .before .before in (
-      hull-skip (lent s) (table s) (row s) (s .args .s) (s .args .hull) (s .pre .4)
-          (λ p h a. clash h (rw add-one at (sym (c .before .has-shape .ensures) ∙ not-true (c .if1 .taken)))),
-      s .pre .5,
-    )
+  -- what was found is a point of the shape
+  found : c .search .result .found ≡ true → allowed (lent (s b)) (table (s b)) (row (s b)) (next (s b)) (c .search .result .point) ≡ true
+  found e = sym (cut-free (lent (s b)) (table (s b)) (row (s b)) (next (s b)) (cut b) (box b) (c .search .result .point)) ∙ sighted .free e
 
 axes-of-requires : tie.Need-axes-of-requires
 axes-of-requires c κs = search needs
@@ -95,10 +81,11 @@ cut-box-requires c κs = search needs
 holds-requires : tie.Need-holds-requires
 holds-requires c κs = search needs
 
-returns-2 : tie.Need-returns-2
-returns-2 c =
-    let b = c .before in
-    (nothing b (none-free (lent (s b)) (table (s b)) (row (s b)) (next (s b)) (cut b) (sym (tested b) ∙ not-true (c .if2 .taken))), s b .pre .5)
+returns : tie.Need-returns
+returns c =
+    let h = c .before in
+    let w = skipped (s h) (none-allowed (lent (s h)) (table (s h)) (row (s h)) (next (s h)) (cut h) (box h) (sym (tested h) ∙ not-true (c .if1 .taken))) in
+    (w .0, w .1, s h .pre .7)
 
 add-gather : tie.Need-add-gather
 add-gather c = search needs
@@ -113,78 +100,91 @@ search-requires : tie.Need-search-requires
 search-requires c κs =
     let g = c .before .before in
     let e = g .before .before in
-    let b = e .before in (
-      s b .pre .0,
-      s b .pre .1,
-      s b .pre .2,
-      omega (arith, s b .pre .0 .head .some-axes),
-      box b .small,
-      sym (tested b) ∙ not-false (e .if2 .left),
+    let h = e .before in
+    let p = s h .pre in (
+      p .0,
+      p .1,
+      p .2,
+      omega (arith, p .0 .head .some-axes),
+      box h .small,
+      sym (tested h) ∙ not-false (e .if1 .left),
       g .gather .ensures .0,
       g .gather .ensures .1,
     )
 
-enum-known-least : tie.Need-enum-known-least
-enum-known-least c = search needs
+same-length : tie.Need-same-length
+same-length c = search needs
 
-with-points-requires : tie.Need-with-points-requires
-with-points-requires c κs =
-    let m = c .before .before in
-    let r = m .before .before in
+returns-2 : tie.Need-returns-2
+returns-2 c =
+    let r = c .before in
+    let h = b r in
+    let free = cut-free (lent (s h)) (table (s h)) (row (s h)) (next (s h)) (cut h) (box h) in
+    let w = skipped (s h) (λ p a. sighted r .none (not-true (c .if2 .taken)) p (free p ∙ a)) in
+    (w .0, w .1, r .before .before .before .gather .ensures .0)
+
+take-in-requires : tie.Need-take-in-requires
+take-in-requires c κs = search needs
+
+widen-requires : tie.Need-widen-requires
+widen-requires c κs =
+    let n = c .before .before in
+    let t = n .before in
+    let f = t .before .before .before in
+    let r = f .before in
     let g = r .before .before .before in
-    let b = g .before .before .before in
-    let f : SFits w64 (m .least .given .0 .0) = search needs in (
-      s b .pre .0,
-      s b .pre .1,
-      s b .pre .2,
-      s b .pre .3,
-      held b,
-      box b,
-      s b .pre .4,
-      rw (toZ-ofZ f) (free-allowed (lent (s b)) (table (s b)) (row (s b)) (next (s b)) (cut b) (box b) (some (m .least .given .0 .0))
-          (found r (some (m .least .given .0 .0)) (found-at _ _ (m .least .given .1)))),
+    let h = b r in
+    let p = s h .pre in
+    let st : Stands (lent (s h)) (table (s h)) (row (s h)) (r .search .result .point) =
+    record { shape = next (s h); held = p .4; stands = found r (not-false (f .if2 .left)) } in (
+      p .0,
+      p .1,
+      p .2,
+      p .3,
+      p .4,
+      box h,
+      sym (tested h) ∙ not-false (g .before .before .if1 .left),
+      n .ends .given ∙ p .5,
+      taken-edges (lent (s h)) (table (s h)) (p .1) (row (s h)) (p .2 .from) (p .2 .upto) (p .0 .head .few-axes)
+          (t .take-in .ensures) st (s h .args .s) (p .6),
       g .gather .ensures .0,
       rw add-one at (g .gather .ensures .1),
     )
 
-enum-told : tie.Need-enum-told
-enum-told c = search needs
-
-same-length : tie.Need-same-length
-same-length c = search needs
-
-returns-3 : tie.Need-returns-3
-returns-3 c = search needs
-
 same-length-2 : tie.Need-same-length-2
 same-length-2 c = search needs
 
-returns-4 : tie.Need-returns-4
-returns-4 c =
-    let r = c .before .before in
-    let g = r .before .before .before in
-    (nothing (g .before .before .before) (found r none (found-none _ (c .enum-told .given .1))), g .gather .ensures .0)
+same-length-3 : tie.Need-same-length-3
+same-length-3 c = search needs
+
+returns-3 : tie.Need-returns-3
+returns-3 c =
+    let w = c .before in
+    let f = w .before .before .before .before .before .before .before in
+    let r = f .before in
+    let h = b r in (
+      sym (kept-shape (lent (s h)) (table (s h)) (row (s h)) (next (s h)) (r .search .result .point) (s h .pre .4) (found r (not-false (f .if2 .left)))),
+      λ flip d l. inl (w .widen .ensures flip d l),
+      r .before .before .before .gather .ensures .0,
+    )
 
 pub with-shape-spec : {M : Type 1} → statement M
 with-shape-spec =
     tie.close
     (tie.spec
-    add-has-shape
-    has-shape-requires
-    returns
     axes-of-requires
     add-cut-box
     cut-box-requires
     holds-requires
-    returns-2
+    returns
     add-gather
     gather-requires
     add-search
     search-requires
-    enum-known-least
-    with-points-requires
-    enum-told
     same-length
-    returns-3
+    returns-2
+    take-in-requires
+    widen-requires
     same-length-2
-    returns-4)
+    same-length-3
+    returns-3)

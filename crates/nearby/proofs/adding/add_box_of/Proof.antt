@@ -1,6 +1,5 @@
 -- `adding::add_box_of` meets its contract: a box of another shape adds nothing. Assumes nothing.
-use mathlib.Core.Path.{_≡_, sym, ap, _∙_}
-use mathlib.Core.Bool.{_&&_}
+use mathlib.Core.Path.{sym, _∙_}
 use denote.Ref.{now}
 use borrow.Author.Needs.{needs}
 use Rattle.integers.proofs.Booleans.{not-true, not-false, and-true}
@@ -16,7 +15,7 @@ box-is-requires c κs =
     (w .head, s .pre .3, w .shapes _ (s .pre .3 .below))
 
 returns : tie.Need-returns
-returns c = grows-none _ _ _ _ _ (λ p. rw (sym (c .before .box-is .ensures) ∙ not-true (c .if1 .taken)))
+returns c = grows-none _ _ _ _ (λ p. rw (sym (c .before .box-is .ensures) ∙ not-true (c .if1 .taken)))
 
 add-box-requires : tie.Need-add-box-requires
 add-box-requires c κs =
@@ -37,7 +36,7 @@ same-length c = search needs
 returns-2 : tie.Need-returns-2
 returns-2 c =
     let s = c .before .before .before .before .before in
-    grows-by _ _ _ _ _ (λ p h. and-true {a = isOf (lentOf (now (s .before .args .block))) (s .before .args .x .c .number) (s .before .args .t)} h .1)
+    grows-by _ _ _ _ (λ p h. and-true {a = isOf (lentOf (now (s .before .args .block))) (s .before .args .x .c .number) (s .before .args .t)} h .1)
     (c .before .add-box .ensures)
 
 pub add-box-of-spec : {M : Type 1} → statement M

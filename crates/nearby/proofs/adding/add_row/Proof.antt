@@ -1,6 +1,6 @@
 -- `adding::add_row` meets its contract: the row itself, one that is not named, one with several shapes and one whose shape is clear of the
 -- area add nothing. Assumes nothing.
-use mathlib.Core.Path.{_≡_, refl, sym, ap, _∙_}
+use mathlib.Core.Path.{_≡_, refl, sym, ap, _∙_, subst}
 use mathlib.Core.Bool.{true}
 use mathlib.Core.List.{List}
 use Prim.Native.Nat.{_≤_}
@@ -10,8 +10,10 @@ use lib.IntN.{ℤ}
 use borrow.Author.Needs.{needs}
 use borrow.Author.Tests.{eq-eqb}
 use Rattle.integers.proofs.Booleans.{not-true, not-false}
-use Rattle.sheet.specs.Layout.{lentOf, namesRow}
+use Rattle.sheet.specs.Layout.{lentOf, axes, namesRow}
 use Rattle.sheet.specs.Allowed.{shapesForbid, setForbids, rowForbids}
+use Rattle.region.specs.declared.Area.{Area}
+use Rattle.region.specs.Area.{inArea}
 use Rattle.forbid.proofs.Rows.{itself-none, unnamed-none, named-set, several-none, single-set}
 use Rattle.nearby.specs.Listing.{Opponent}
 use Rattle.nearby.proofs.Gathers.{grows-none, grows-clear, grows-by}
@@ -19,7 +21,7 @@ use Rattle.nearby.proofs.adding.add_row.Statement.{statement}
 use Rattle.nearby.proofs.adding.add_row.Tie as tie
 
 returns : tie.Need-returns
-returns c = grows-none _ _ _ _ _ (itself-none _ _ _ _ _ _ (c .if1 .taken))
+returns c = grows-none _ _ _ _ (itself-none _ _ _ _ _ _ (c .if1 .taken))
 
 names-row-requires : tie.Need-names-row-requires
 names-row-requires c κs =
@@ -30,7 +32,7 @@ names-row-requires c κs =
 returns-2 : tie.Need-returns-2
 returns-2 c =
     let n = c .before in
-    grows-none _ _ _ _ _ (unnamed-none _ _ _ _ _ _ (n .before .if1 .left) (sym (n .names-row .ensures) ∙ not-true (c .if2 .taken)))
+    grows-none _ _ _ _ (unnamed-none _ _ _ _ _ _ (n .before .if1 .left) (sym (n .names-row .ensures) ∙ not-true (c .if2 .taken)))
 
 row-place-requires : tie.Need-row-place-requires
 row-place-requires c κs = search needs
@@ -53,7 +55,7 @@ returns-3 : tie.Need-returns-3
 returns-3 c =
     let o = c .before in
     let n = named o in
-    grows-none _ _ _ _ _ (λ p. sym (named-set _ _ _ _ _ _ (n .before .if1 .left) (sym (n .names-row .ensures) ∙ is-named o) p)
+    grows-none _ _ _ _ (λ p. sym (named-set _ _ _ _ _ _ (n .before .if1 .left) (sym (n .names-row .ensures) ∙ is-named o) p)
     ∙ several-none _ _ _ _ _ _ (rw (o .before .row-place .ensures .1) at (o .only-shape .ensures)) (c .if3 .taken) p)
 
 opponent : (c : tie.Else3) → let o = c .before in let a = top o .args in
@@ -85,9 +87,19 @@ by-shape c p h =
     single-set _ _ _ _ _ _ (o .only-shape .ensures) (c .if3 .left) p ∙ ap (setForbids _ _ _ p _ _) (o .before .row-place .ensures .1)
     ∙ named-set _ _ _ _ _ _ (n .before .if1 .left) (sym (n .names-row .ensures) ∙ is-named o) p ∙ h
 
+is-single-requires : tie.Need-is-single-requires
+is-single-requires c κs =
+    let g = c .before in
+    let p = top (g .before) .pre in
+    let w = opponent g in
+    (p .0 .block, omega (arith, p .6 .ready .long), p .6 .ready .index, w .from, w .upto)
+
+area-at-requires : tie.Need-area-at-requires
+area-at-requires c κs = top (c .before .before .before .before .before) .pre .6 .ready .long
+
 is-shape-near-requires : tie.Need-is-shape-near-requires
 is-shape-near-requires c κs =
-    let g = c .before .before in
+    let g = c .before .before .before .before .before .before in
     let o = g .before in
     let p = top o .pre in
     let w = opponent g in
@@ -99,13 +111,15 @@ same-length c = search needs
 returns-4 : tie.Need-returns-4
 returns-4 c =
     let n = c .before in
-    let g = n .before .before .before in
-    let q = top (g .before) .args .q in
-    grows-clear _ _ _ _ _ (λ p inside near h. n .is-shape-near .ensures (not-true (c .if4 .taken)) (q .i .number) p near inside (by-shape g p h))
+    let x = n .before .before in
+    let g = x .before .before .before .before .before in
+    let a = top (g .before) .args in
+    grows-clear _ _ _ _ (λ p inside near h. n .is-shape-near .ensures (not-true (c .if5 .taken)) (a .q .i .number) p near
+    (subst (λ (b : Area). inArea (axes (lentOf (now (a .block)))) b p ≡ true) (sym (x .area-at .ensures)) inside) (by-shape g p h))
 
 add-shape-requires : tie.Need-add-shape-requires
 add-shape-requires c κs =
-    let g = c .before .before .before .before .before in
+    let g = c .before .before .before .before in
     let o = g .before in
     let p = top o .pre in
     (p .0, p .1, o .before .row-place .ensures .0, opponent g, p .6)
@@ -115,8 +129,8 @@ same-length-2 c = search needs
 
 returns-5 : tie.Need-returns-5
 returns-5 c =
-    let g = c .before .before .before .before .before .before .before in
-    grows-by _ _ _ _ _ (λ p h. by-shape g p h) (c .before .add-shape .ensures)
+    let g = c .before .before .before .before .before .before in
+    grows-by _ _ _ _ (λ p h. by-shape g p h) (c .before .add-shape .ensures)
 
 pub add-row-spec : {M : Type 1} → statement M
 add-row-spec =
@@ -128,6 +142,8 @@ add-row-spec =
     row-place-requires
     only-shape-requires
     returns-3
+    is-single-requires
+    area-at-requires
     is-shape-near-requires
     same-length
     returns-4

@@ -1,32 +1,29 @@
 -- `adding::add_rows` meets its contract: so far the rows passed are listed. Assumes nothing.
-use mathlib.Core.Path.{_≡_, refl, _∙_, subst}
-use mathlib.Core.Bool.{false}
-use mathlib.Core.List.{List}
-use Prim.Native.Nat.{ℕ, suc, _-_, _≤_}
+use mathlib.Core.Path.{_≡_, refl, _∙_}
+use Prim.Native.Nat.{suc, _-_, _≤_}
 use native.Mathlib.Numerals.{add-one}
 use native.Mathlib.Omega.{arith}
 use denote.Ref.{now}
-use lib.IntN.{ℤ}
 use lib.ListN.{length}
 use borrow.Author.Needs.{needs}
 use Rattle.integers.specs.Below.{anyBelow}
 use Rattle.sheet.specs.Layout.{lentOf, rows}
 use Rattle.sheet.specs.Allowed.{rowForbids}
 use Rattle.forbid.specs.Region.{rowsForbid}
-use Rattle.nearby.specs.Listing.{Gathered, Grows}
+use Rattle.nearby.specs.Listing.{Open, Grows}
 use Rattle.nearby.proofs.Gathers.{grows-start, grows-more, open-after}
 use Rattle.nearby.proofs.adding.add_rows.Statement.{statement}
 use Rattle.nearby.proofs.adding.add_rows.Tie as tie
 
 abbrev Inv-loop : tie.InvT-loop
-Inv-loop block table list₀ q r n found₀ j₀ list found j =
-    (j ≤ n) × Gathered (lentOf block) table (q .i .number) (q .s) list found (q .area) (λ p. false)
-    × Grows (lentOf block) table (q .i .number) (q .s) (q .area)
+Inv-loop block table list₀ count q r n found₀ j₀ list found j =
+    (j ≤ n) × Open (lentOf block) table (q .i .number) (q .s) list found
+    × Grows (lentOf block) table (q .i .number) (q .s)
     (λ p. anyBelow j (λ m. rowForbids (lentOf block) table (r .number) p (q .i .number) (q .s) (suc m))) list₀ found₀ list found
     × (length list ≡ length list₀)
 
 abbrev μ-loop : tie.MeasureT-loop
-μ-loop block table list₀ q r n found₀ j₀ list found j = n - j
+μ-loop block table list₀ count q r n found₀ j₀ list found j = n - j
 
 rows-of-requires : tie.Need-rows-of-requires Inv-loop μ-loop
 rows-of-requires c κs = c .pre .0 .block .head
@@ -37,7 +34,7 @@ loop-holds c =
     let a = s .args in (
       omega arith,
       s .pre .4,
-      grows-start _ _ _ _ _ (λ m p. rowForbids (lentOf (now (a .block))) (now (a .table)) (a .r .number) p (a .q .i .number) (a .q .s) (suc m)),
+      grows-start _ _ _ _ (λ m p. rowForbids (lentOf (now (a .block))) (now (a .table)) (a .r .number) p (a .q .i .number) (a .q .s) (suc m)),
       refl,
     )
 
@@ -63,8 +60,8 @@ loop-again c =
     let l = w .before .before in
     let a = l .before .before .before .args in (
       omega (arith, l .loop-test .taken),
-      open-after _ _ _ _ _ (w .add-row .ensures) (l .before .loop .inv .1),
-      grows-more _ _ _ _ _ (λ m p. rowForbids (lentOf (now (a .block))) (now (a .table)) (a .r .number) p (a .q .i .number) (a .q .s) (suc m))
+      open-after _ _ _ _ (w .add-row .ensures) (l .before .loop .inv .1),
+      grows-more _ _ _ _ (λ m p. rowForbids (lentOf (now (a .block))) (now (a .table)) (a .r .number) p (a .q .i .number) (a .q .s) (suc m))
           (l .before .loop .inv .2) (rw (add-one (l .before .loop .j)) at (w .add-row .ensures)),
       c .list .given ∙ l .before .loop .inv .3,
     )

@@ -1,6 +1,6 @@
 -- `adding::add_rule` meets its contract: a rule that does not count, or does not keep the row apart, adds nothing. Assumes nothing.
 use mathlib.Core.Path.{_≡_, sym, ap, _∙_}
-use mathlib.Core.Bool.{Bool, true, _&&_}
+use mathlib.Core.Bool.{_&&_}
 use Prim.Native.Nat.{ℕ}
 use native.Mathlib.Omega.{arith}
 use denote.Ref.{now}
@@ -18,7 +18,7 @@ holds-requires : tie.Need-holds-requires
 holds-requires c κs = omega (arith, c .pre .1, c .pre .0 .block .head .few-rules)
 
 returns : tie.Need-returns
-returns c = grows-none _ _ _ _ _ (λ p. rw (sym (c .before .holds .ensures) ∙ not-true (c .if1 .taken)))
+returns c = grows-none _ _ _ _ (λ p. rw (sym (c .before .holds .ensures) ∙ not-true (c .if1 .taken)))
 
 rule-place-requires : tie.Need-rule-place-requires
 rule-place-requires c κs = let s = c .before .before in (s .pre .0 .block .head, s .pre .1)
@@ -45,7 +45,7 @@ unfolding ruleForbids
 returns-2 c =
     let o = c .before in
     let a = top o .args in
-    grows-none _ _ _ _ _ (λ p. fails (λ h.
+    grows-none _ _ _ _ (λ p. fails (λ h.
     let u = and-true {a = bit (pos (a .counted)) (a .r)} h in
     let v = and-true {a = isNonOverlap (lentOf (now (a .block))) (a .r) && namesRow (lentOf (now (a .block))) (a .r) (a .q .i .number)} (u .1) in
     clash (v .0) (sym (apart o) ∙ not-true (c .if2 .taken))))
@@ -65,7 +65,7 @@ unfolding ruleForbids
 returns-3 c =
     let o = c .before .before .before .before in
     let a = top o .args in
-    grows-by _ _ _ _ _ (λ p h.
+    grows-by _ _ _ _ (λ p h.
     let u = and-true {a = bit (pos (a .counted)) (a .r)} h in
     let v = and-true {a = isNonOverlap (lentOf (now (a .block))) (a .r) && namesRow (lentOf (now (a .block))) (a .r) (a .q .i .number)} (u .1) in
     ap (λ (m : ℕ). rowsForbid (lentOf (now (a .block))) (now (a .table)) m (a .q .i .number) (a .q .s) p) (o .before .rule-place .ensures .1) ∙ v .1)

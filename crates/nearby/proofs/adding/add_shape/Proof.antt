@@ -1,31 +1,30 @@
 -- `adding::add_shape` meets its contract: so far the boxes passed are listed. Assumes nothing.
-use mathlib.Core.Path.{_≡_, refl, sym, ap, _∙_, subst}
-use mathlib.Core.Bool.{Bool, false, _&&_}
+use mathlib.Core.Path.{_≡_, refl, _∙_, subst}
+use mathlib.Core.Bool.{Bool, _&&_}
 use mathlib.Core.List.{List}
 use Prim.Native.Nat.{ℕ, _-_, _≤_, _<_}
 use native.Mathlib.Omega.{arith}
 use denote.Ref.{now}
 use lib.IntN.{ℤ}
 use lib.ListN.{length}
-use borrow.Author.Needs.{needs}
 use Rattle.integers.specs.Below.{anyBelow}
 use Rattle.integers.proofs.Below.{false-any}
-use Rattle.sheet.specs.Layout.{Lent, lentOf, boxes, isOf}
-use Rattle.nearby.specs.Listing.{rivalForbids, Gathered, Grows}
+use Rattle.sheet.specs.Layout.{lentOf, boxes, isOf}
+use Rattle.nearby.specs.Listing.{rivalForbids, Open, Grows}
 use Rattle.nearby.proofs.Gathers.{grows-none, grows-by, grows-skip, open-after, shapes-rival}
 use Rattle.nearby.proofs.adding.add_shape.Statement.{statement}
 use Rattle.nearby.proofs.adding.add_shape.Tie as tie
 
 abbrev Inv-loop : tie.InvT-loop
-Inv-loop block table list₀ q r j t n found₀ at₀ list found at =
-    (at ≤ n) × Gathered (lentOf block) table (q .i .number) (q .s) list found (q .area) (λ p. false)
-    × Grows (lentOf block) table (q .i .number) (q .s) (q .area)
+Inv-loop block table list₀ count q r j t n found₀ at₀ list found at =
+    (at ≤ n) × Open (lentOf block) table (q .i .number) (q .s) list found
+    × Grows (lentOf block) table (q .i .number) (q .s)
     (λ p. anyBelow at (λ c. isOf (lentOf block) c t && rivalForbids (lentOf block) table (q .i .number) (q .s) (r .number) (j .number) c p))
     list₀ found₀ list found
     × (length list ≡ length list₀)
 
 abbrev μ-loop : tie.MeasureT-loop
-μ-loop block table list₀ q r j t n found₀ at₀ list found at = n - at
+μ-loop block table list₀ count q r j t n found₀ at₀ list found at = n - at
 
 boxes-of-requires : tie.Need-boxes-of-requires Inv-loop μ-loop
 boxes-of-requires c κs = c .pre .0 .block .head
@@ -42,7 +41,7 @@ loop-holds c =
     let s = n .before in (
       omega (arith, n .boxes-of .ensures, c .first-of .ensures .0),
       s .pre .4,
-      grows-none _ _ _ _ _ (λ p. false-any {f = λ m. isOf (lentOf (now (s .args .block))) m (s .args .t)
+      grows-none _ _ _ _ (λ p. false-any {f = λ m. isOf (lentOf (now (s .args .block))) m (s .args .t)
           && rivalForbids (lentOf (now (s .args .block))) (now (s .args .table)) (s .args .q .i .number) (s .args .q .s) (s .args .r .number)
           (s .args .j .number) m p} (λ m h. rw (c .first-of .ensures .1 m h))),
       refl,
@@ -82,15 +81,15 @@ module _ (c : tie.After-list Inv-loop μ-loop) where
       (top (c .before .before .before .before) .args .r .number) (top (c .before .before .before .before) .args .j .number) m p
 
   one-more : Grows (lentOf (now (top test .args .block))) (now (top test .args .table)) (top test .args .q .i .number) (top test .args .q .s)
-      (top test .args .q .area) (listed (test .before .loop .at)) (test .before .loop .list) (test .before .loop .found)
+      (listed (test .before .loop .at)) (test .before .loop .list) (test .before .loop .found)
       (c .before .add-box-of .last .1 .1 .0) (c .before .add-box-of .result)
   one-more = subst (λ (m : ℕ). Grows (lentOf (now (top test .args .block))) (now (top test .args .table)) (top test .args .q .i .number)
-      (top test .args .q .s) (top test .args .q .area) (listed m) (test .before .loop .list) (test .before .loop .found)
+      (top test .args .q .s) (listed m) (test .before .loop .list) (test .before .loop .found)
       (c .before .add-box-of .last .1 .1 .0) (c .before .add-box-of .result)) (place .box-place .ensures .1) (c .before .add-box-of .ensures)
 
-  gathered : Gathered (lentOf (now (top test .args .block))) (now (top test .args .table)) (top test .args .q .i .number) (top test .args .q .s)
-      (c .before .add-box-of .last .1 .1 .0) (c .before .add-box-of .result) (top test .args .q .area) (λ p. false)
-  gathered = open-after _ _ _ _ _ (c .before .add-box-of .ensures) (test .before .loop .inv .1)
+  gathered : Open (lentOf (now (top test .args .block))) (now (top test .args .table)) (top test .args .q .i .number) (top test .args .q .s)
+      (c .before .add-box-of .last .1 .1 .0) (c .before .add-box-of .result)
+  gathered = open-after _ _ _ _ (c .before .add-box-of .ensures) (test .before .loop .inv .1)
 
 after-requires : tie.Need-after-requires Inv-loop μ-loop
 after-requires c κs =
@@ -111,7 +110,7 @@ loop-again c =
     let e = place a .box-place .ensures .1 in (
       omega (arith, c .after .ensures .1, n .boxes-of .ensures),
       gathered a,
-      grows-skip _ _ _ _ _ (listed a) (test a .before .loop .inv .2) (one-more a)
+      grows-skip _ _ _ _ (listed a) (test a .before .loop .inv .2) (one-more a)
           (λ y p h k. rw (c .after .ensures .2 y (omega (arith, e)) k)),
       a .list .given ∙ test a .before .loop .inv .3,
     )
@@ -125,7 +124,7 @@ returns c =
     let n = l .before .before .before in
     let s = n .before in
     let q : l .loop .at ≡ boxes (lentOf (now (s .args .block))) = omega (arith, n .boxes-of .ensures, l .loop .inv .0, c .loop-test .left) in
-    grows-by _ _ _ _ _ (λ p h. shapes-rival _ _ _ _ _ _ _ p h) (rw q at (l .loop .inv .2))
+    grows-by _ _ _ _ (λ p h. shapes-rival _ _ _ _ _ _ _ p h) (rw q at (l .loop .inv .2))
 
 pub add-shape-spec : {M : Type 1} → statement M
 add-shape-spec =

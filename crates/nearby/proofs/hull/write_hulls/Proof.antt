@@ -1,81 +1,76 @@
--- `hull::write_hulls` meets its contract: the hulls of the shapes below s are written. Assumes nothing.
-use mathlib.Core.Path.{sym, subst}
-use mathlib.Core.Logic.{⊎-elim}
-use mathlib.Core.List.{List}
-use Prim.Native.Nat.{ℕ, _+_, _-_, _≤_, _<_}
-use native.Mathlib.Numerals.{add-one}
+-- `hull::write_hulls` meets its contract: the boxes before b lie in the hulls of their shapes. Assumes nothing.
+use mathlib.Core.Path.{_≡_, subst}
+use Prim.Native.Nat.{ℕ, _-_, _≤_}
 use native.Mathlib.Omega.{arith}
 use denote.Ref.{now}
-use lib.IntN.{ℤ}
-use Rattle.integers.proofs.Below.{last-or}
-use Rattle.sheet.specs.Layout.{Lent, lentOf, boxes}
-use Rattle.nearby.specs.Hull.{startsAt, hullAt, HullTo}
+use Rattle.sheet.specs.Layout.{lentOf, boxes}
+use Rattle.nearby.specs.Hull.{hullAt, HullTo}
 use Rattle.nearby.specs.Listing.{SameTo}
 use Rattle.nearby.proofs.Entries.{same-none, same-then}
-use Rattle.nearby.proofs.Fours.{hull-kept}
-use Rattle.nearby.proofs.Head.{index-kept}
+use Rattle.nearby.proofs.Hulls.{hull-none}
 use Rattle.nearby.proofs.hull.write_hulls.Statement.{statement}
 use Rattle.nearby.proofs.hull.write_hulls.Tie as tie
 
 abbrev Inv-loop : tie.InvT-loop
-Inv-loop block list₀ s₀ list s =
-    (1 ≤ s) × (s ≤ 33) × SameTo 161 list₀ list
-    × ((t : ℕ) → 1 ≤ t → t < s → HullTo (lentOf block) t (boxes (lentOf block)) (hullAt list t))
+Inv-loop block list₀ n b₀ list b =
+    (b ≤ n) × SameTo 161 list₀ list × ((s : ℕ) → 1 ≤ s → s ≤ 32 → HullTo (lentOf block) s b (hullAt list s))
 
 abbrev μ-loop : tie.MeasureT-loop
-μ-loop block list₀ s₀ list s = 33 - s
+μ-loop block list₀ n b₀ list b = n - b
 
--- one shape more
-more : (lent : Lent) (l l' : List ℤ) (s : ℕ) → SameTo (startsAt s) l l' → HullTo lent s (boxes lent) (hullAt l' s)
-    → ((t : ℕ) → 1 ≤ t → t < s → HullTo lent t (boxes lent) (hullAt l t))
-    → (t : ℕ) → 1 ≤ t → t < s + 1 → HullTo lent t (boxes lent) (hullAt l' t)
-more lent l l' s same new old t f u =
-    ⊎-elim
-    (λ q. subst (λ (m : ℕ). HullTo lent m (boxes lent) (hullAt l' m)) (sym q) new)
-    (λ k. subst (HullTo lent t (boxes lent)) (sym (hull-kept l l' t (λ x g h. same .words x (omega arith)))) (old t f k))
-    (last-or (subst (λ (m : ℕ). t < m) (add-one s) u))
+clear-hulls-requires : tie.Need-clear-hulls-requires Inv-loop μ-loop
+clear-hulls-requires c κs = c .before .pre .1
+
+boxes-of-requires : tie.Need-boxes-of-requires Inv-loop μ-loop
+boxes-of-requires c κs = c .before .before .before .pre .0 .head
 
 loop-holds : tie.Need-loop-holds Inv-loop μ-loop
-loop-holds c = (omega arith, omega arith, same-none _ _, λ t f u. absurd (omega arith))
+loop-holds c =
+    let w = c .before .before in
+    let head = w .before .before .pre .0 .head in
+    (omega arith, same-none _ _, λ s f u. hull-none s _ head (λ d. w .clear-hulls .ensures .1 s d f u))
 
-write-hull-requires : tie.Need-write-hull-requires Inv-loop μ-loop
-write-hull-requires c κs =
+-- what is known at the loop
+module _ (l : tie.At-loop Inv-loop μ-loop) where
+  abbrev w : tie.After-clear-hulls Inv-loop μ-loop
+  w = l .before .before .before
+
+  abbrev s : tie.Start Inv-loop μ-loop
+  s = w .before .before
+
+  same : SameTo 161 (now (s .args .list)) (l .loop .list)
+  same = same-then (w .clear-hulls .ensures .0) (l .loop .inv .1) (omega arith)
+
+widen-requires : tie.Need-widen-requires Inv-loop μ-loop
+widen-requires c κs =
     let l = c .before .before in
-    let p = l .before .pre in
-    let i = l .loop .inv in (
-      p .0,
-      omega (arith, p .1, i .2 .long),
-      index-kept (p .0 .head) (λ x h. i .2 .words x (omega arith)) (p .2),
-      i .0,
-      omega (arith, c .before .loop-test .taken),
-    )
+    (s l .pre .0, omega (arith, s l .pre .1, same l .long), omega (arith, c .before .loop-test .taken, l .before .boxes-of .ensures))
 
-add-s : tie.Need-add-s Inv-loop μ-loop
-add-s c = omega (arith, c .before .before .before .loop-test .taken)
+add-b : tie.Need-add-b Inv-loop μ-loop
+add-b c = omega (arith, c .before .before .before .loop-test .taken)
 
 loop-less : tie.Need-loop-less Inv-loop μ-loop
 loop-less c = omega (arith, c .before .before .before .loop-test .taken)
 
 loop-again : tie.Need-loop-again Inv-loop μ-loop
 loop-again c =
-    let w = c .before in
-    let b = w .before .before in
-    let l = b .before in
-    let i = l .loop .inv in
-    let e = w .write-hull .ensures in (
-      omega arith,
-      omega (arith, b .loop-test .taken),
-      same-then (i .2) (e .0) (omega (arith, i .0)),
-      more (lentOf (now (l .before .args .block))) (l .loop .list) (w .write-hull .last .1 .0) (l .loop .s) (e .0) (e .1) (i .3),
+    let x = c .before in
+    let t = x .before .before in
+    let i = t .before .loop .inv in (
+      omega (arith, t .loop-test .taken),
+      same-then (i .1) (x .widen .ensures .0) (omega arith),
+      λ s f u. x .widen .ensures .1 s f u (i .2 s f u),
     )
 
 same-length : tie.Need-same-length Inv-loop μ-loop
-same-length c = c .before .loop .inv .2 .long
+same-length c = same (c .before) .long
 
 returns : tie.Need-returns Inv-loop μ-loop
 returns c =
-    let i = c .before .loop .inv in
-    (i .2, λ s f u. i .3 s f (omega (arith, c .loop-test .left)))
+    let l = c .before in
+    let lent = lentOf (now (s l .args .block)) in
+    let q : l .loop .b ≡ boxes lent = omega (arith, c .loop-test .left, l .loop .inv .0, l .before .boxes-of .ensures) in
+    (same l, λ t f u. subst (λ (n : ℕ). HullTo lent t n (hullAt (l .loop .list) t)) q (l .loop .inv .2 t f u))
 
 pub write-hulls-spec : {M : Type 1} → statement M
 write-hulls-spec =
@@ -83,9 +78,11 @@ write-hulls-spec =
     (tie.spec
     Inv-loop
     μ-loop
+    clear-hulls-requires
+    boxes-of-requires
     loop-holds
-    write-hull-requires
-    add-s
+    widen-requires
+    add-b
     loop-less
     loop-again
     same-length

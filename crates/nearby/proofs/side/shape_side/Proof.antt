@@ -101,7 +101,7 @@ returns : tie.Need-returns
 returns c g h =
     let b = c .before in
     let a = top b .args in
-    c .side-by .ensures g (hullAt (now (a .list)) (a .s)) (≤ℤ-trans (le-of (other-start b)) (h .starts))
+    c .side-by .ensures .0 g (hullAt (now (a .list)) (a .s)) (≤ℤ-trans (le-of (other-start b)) (h .starts))
     (≤ℤ-trans (h .ends) (le-of (sym (other-end b)))) (own-start b) (own-end b)
 
 pub shape-side-spec : {M : Type 1} → statement M

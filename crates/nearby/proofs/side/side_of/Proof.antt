@@ -1,5 +1,6 @@
--- `side::side_of` meets its contract: the box lies from its start to its end. Assumes nothing.
+-- `side::side_of` meets its contract: the box lies from its start to its end, and the hull's words are the head's. Assumes nothing.
 use mathlib.Core.Path.{_≡_, sym, ap₂, _∙_}
+use Prim.Native.Nat.{_<_}
 use native.Mathlib.Omega.{arith}
 use denote.Ref.{now}
 use lib.IntN.{_+ℤ_}
@@ -10,10 +11,24 @@ use Rattle.integers.specs.Words.{word}
 use Rattle.integers.proofs.Machine.{Expr, bnd, _+ʷ_, bitsOf, sum-fits, exact, exact-within, within-by, within-weaken}
 use Rattle.sheet.specs.Layout.{lentOf, offset, size}
 use Rattle.region.proofs.Sums.{bits-back}
+use Rattle.nearby.specs.Hull.{hullAt}
+use Rattle.nearby.proofs.Fours.{hull-start, hull-end}
 use Rattle.nearby.proofs.Hulls.{le-of}
 use borrow.Author.Needs.{needs}
 use Rattle.nearby.proofs.side.side_of.Statement.{statement}
 use Rattle.nearby.proofs.side.side_of.Tie as tie
+
+few : (c : tie.Start) → c .args .d < 4
+few c = omega (arith, c .pre .0 .head .few-dims, c .pre .8)
+
+mul-own : tie.Need-mul-own
+mul-own c = omega (arith, few c, c .pre .7)
+
+add-own : tie.Need-add-own
+add-own c = omega (arith, few c, c .pre .7)
+
+add-own-2 : tie.Need-add-own-2
+add-own-2 c = omega (arith, few c, c .pre .7)
 
 offset-of-requires : tie.Need-offset-of-requires
 offset-of-requires c κs = search needs
@@ -27,10 +42,10 @@ module _ (c : tie.After-size-of) where
   s = c .before .before
 
   offset-within : Within 10000 (c .before .offset-of .result)
-  offset-within = within-by (c .before .offset-of .ensures) (s .pre .0 .offsets _ _ (s .pre .4 .below) (s .pre .5))
+  offset-within = within-by (c .before .offset-of .ensures) (s .pre .0 .offsets _ _ (s .pre .4 .below) (s .pre .8))
 
   size-within : Within 10000 (c .size-of .result)
-  size-within = within-by (c .size-of .ensures) (s .pre .0 .sizes _ _ (s .pre .4 .below) (s .pre .5))
+  size-within = within-by (c .size-of .ensures) (s .pre .0 .sizes _ _ (s .pre .4 .below) (s .pre .8))
 
   abbrev end : Expr
   end = bnd offset-within +ʷ bnd size-within
@@ -52,54 +67,72 @@ module _ (c : tie.After-size-of) where
 add-end : tie.Need-add-end
 add-end c = sum-fits (bnd (offset-within c)) (bnd (size-within c)) tt
 
-mul-first : tie.Need-mul-first
-mul-first c = search needs
+word-at-requires : tie.Need-word-at-requires
+word-at-requires c κs = let p = s c .pre in omega (arith, few (s c), p .5 .long, p .7)
 
-element-copy-out-first : tie.Need-element-copy-out-first
-element-copy-out-first c = search needs
+add-word-at : tie.Need-add-word-at
+add-word-at c = let t = s (c .before) in omega (arith, few t, t .pre .7)
 
-mul-last : tie.Need-mul-last
-mul-last c = search needs
+word-at-requires-2 : tie.Need-word-at-requires-2
+word-at-requires-2 c κs = let t = s (c .before) in omega (arith, few t, t .pre .5 .long, t .pre .7)
 
-element-copy-out-last : tie.Need-element-copy-out-last
-element-copy-out-last c = search needs
+-- where the hull starts and ends
+module _ (c : tie.After-word-at2) where
+  abbrev z : tie.After-size-of
+  z = c .before .before
+
+  first-is : toZ w64 (ofZ w64 (c .before .word-at .result)) ≡ word (hullAt (now (s z .args .list)) (s z .args .s) .start) (s z .args .d)
+  first-is =
+      let w = c .before .word-at in
+      bits-back {z = w .result} (w .ok) ∙ w .ensures ∙ hull-start (now (s z .args .list)) (s z .args .s) (s z .args .d) (few (s z))
+
+  last-is : toZ w64 (ofZ w64 (c .word-at2 .result)) ≡ word (hullAt (now (s z .args .list)) (s z .args .s) .end) (s z .args .d)
+  last-is =
+      let w = c .word-at2 in
+      bits-back {z = w .result} (w .ok) ∙ w .ensures ∙ hull-end (now (s z .args .list)) (s z .args .s) (s z .args .d) (few (s z))
 
 side-by-requires : tie.Need-side-by-requires
 side-by-requires c κs =
-    let f = c .before in
-    let z = f .before in
-    let a = s z .args in
-    let p = s z .pre in (
+    let p = s (z c) .pre in
+    let a = s (z c) .args in
+    let own = p .5 .hulls (a .s) (p .6) (p .7) .modest in (
       p .0,
       p .1,
       p .2,
       p .3,
-      start-within z,
-      end-within z,
-      within-by (bits-back {z = word (a .t6 .start) (a .d)} (f .first .given)) (p .6 .starts (a .d)),
-      within-by (bits-back {z = word (a .t6 .end) (a .d)} (c .last .given)) (p .6 .ends (a .d)),
-      p .5,
+      start-within (z c),
+      end-within (z c),
+      within-by (first-is c) (own .starts (a .d)),
+      within-by (last-is c) (own .ends (a .d)),
+      p .8,
     )
 
 returns : tie.Need-returns
 returns c =
-    let l = c .before in
-    let f = l .before in
-    let z = f .before in
-    let a = s z .args in
-    c .side-by .ensures (a .c .number) (a .t6) (le-of (start-is z)) (le-of (sym (end-is z)))
-    (bits-back {z = word (a .t6 .start) (a .d)} (f .first .given)) (bits-back {z = word (a .t6 .end) (a .d)} (l .last .given))
+    let b = c .before in
+    let a = s (z b) .args in
+    let start = start-is (z b) in
+    let end = end-is (z b) in
+    let y = c .side-by .ensures in (
+      y .0 (a .c .number) (hullAt (now (a .list)) (a .s)) (le-of start) (le-of (sym end)) (first-is b) (last-is b),
+      record {
+        fills = λ i k x is e.
+            y .1 i k (a .c .number) x start end (first-is b ∙ is .starts (a .d) (s (z b) .pre .8)) (last-is b ∙ is .ends (a .d) (s (z b) .pre .8)) e;
+      },
+    )
 
 pub side-of-spec : {M : Type 1} → statement M
 side-of-spec =
     tie.close
     (tie.spec
+    mul-own
+    add-own
+    add-own-2
     offset-of-requires
     size-of-requires
     add-end
-    mul-first
-    element-copy-out-first
-    mul-last
-    element-copy-out-last
+    word-at-requires
+    add-word-at
+    word-at-requires-2
     side-by-requires
     returns)

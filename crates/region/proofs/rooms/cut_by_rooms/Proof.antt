@@ -1,51 +1,61 @@
 -- `rooms::cut_by_rooms` meets its contract: so far the area is cut by each rule passed. Assumes nothing.
-use mathlib.Core.Path.{_≡_}
+use mathlib.Core.Path.{_≡_, refl, _∙_}
 use Prim.Native.Nat.{_≤_, _-_}
 use native.Mathlib.Omega.{arith}
 use denote.Ref.{now}
+use lib.ListN.{length}
 use Rattle.integers.specs.Below.{allBelow}
 use Rattle.sheet.specs.Layout.{lentOf, axes, rules}
 use Rattle.sheet.specs.Allowed.{roomsHold}
-use Rattle.region.specs.Area.{Cuts}
+use Rattle.region.specs.Area.{Cuts, areaOf}
 use Rattle.region.specs.Rooms.{boxHolds, shapeContained, roomHolds}
 use Rattle.region.proofs.Cut.{cuts-zero, cuts-more}
 use Rattle.region.proofs.rooms.cut_by_rooms.Statement.{statement}
 use Rattle.region.proofs.rooms.cut_by_rooms.Tie as tie
 
 abbrev Inv-loop : tie.InvT-loop
-Inv-loop block i s n cut₀ r₀ cut r =
-    (r ≤ n) × Cuts (axes (lentOf block)) cut₀ cut (λ p. allBelow r (λ m. roomHolds (lentOf block) i s m p))
+Inv-loop ends₀ block i s n r₀ ends r =
+    (r ≤ n) × (length ends ≡ length ends₀) × Cuts (axes (lentOf block)) (areaOf ends₀) (areaOf ends)
+    (λ p. allBelow r (λ m. roomHolds (lentOf block) i s m p))
 
 abbrev μ-loop : tie.MeasureT-loop
-μ-loop block i s n cut₀ r₀ cut r = n - r
+μ-loop ends₀ block i s n r₀ ends r = n - r
 
 rules-of-requires : tie.Need-rules-of-requires Inv-loop μ-loop
 rules-of-requires c κs = c .pre .0 .head
 
 loop-holds : tie.Need-loop-holds Inv-loop μ-loop
-loop-holds c = (omega arith, cuts-zero _)
+loop-holds c = (omega arith, refl, cuts-zero _)
 
 cut-by-rule-requires : tie.Need-cut-by-rule-requires Inv-loop μ-loop
 cut-by-rule-requires c κs =
-    let n = c .before .before in
+    let l = c .before .before in
+    let n = l .before in
     let s = n .before in
-    (s .pre .0, s .pre .1, s .pre .2, omega (arith, n .rules-of .ensures, c .loop-test .taken))
+    (s .pre .0, s .pre .1, s .pre .2, omega (arith, n .rules-of .ensures, c .before .loop-test .taken), l .loop .inv .1 ∙ s .pre .3)
 
 add-r : tie.Need-add-r Inv-loop μ-loop
-add-r c = omega arith
+add-r c = omega (arith, c .before .before .before .loop-test .taken)
 
 loop-less : tie.Need-loop-less Inv-loop μ-loop
-loop-less c = omega arith
+loop-less c = omega (arith, c .before .before .before .loop-test .taken)
 
 loop-again : tie.Need-loop-again Inv-loop μ-loop
-loop-again c = (omega arith, cuts-more _ (c .before .before .loop .inv .1) (c .cut-by-rule .ensures))
+loop-again c =
+    let t = c .before .before .before in
+    let i = t .before .loop .inv in
+    (omega (arith, t .loop-test .taken), c .ends .given ∙ i .1, cuts-more _ (i .2) (c .before .cut-by-rule .ensures))
+
+same-length : tie.Need-same-length Inv-loop μ-loop
+same-length c = c .before .loop .inv .1
 
 returns : tie.Need-returns Inv-loop μ-loop
 unfolding roomsHold roomHolds shapeContained boxHolds
 returns c =
     let l = c .before in
-    let q : l .loop .r ≡ rules (lentOf (now (l .before .before .args .block))) = omega (arith, l .before .rules-of .ensures) in
-    rw q at (l .loop .inv .1)
+    let q : l .loop .r ≡ rules (lentOf (now (l .before .before .args .block))) =
+    omega (arith, l .before .rules-of .ensures, l .loop .inv .0, c .loop-test .left) in
+    rw q at (l .loop .inv .2)
 
 pub cut-by-rooms-spec : {M : Type 1} → statement M
 cut-by-rooms-spec =
@@ -59,4 +69,5 @@ cut-by-rooms-spec =
     add-r
     loop-less
     loop-again
+    same-length
     returns)

@@ -15,11 +15,16 @@ is-room-of-requires c κs = search needs
 cut-by-shape-requires : tie.Need-cut-by-shape-requires
 cut-by-shape-requires c κs = search needs
 
+same-length : tie.Need-same-length
+same-length c = search needs
+
 returns : tie.Need-returns
 unfolding roomHolds
 returns c =
-    let r = c .before .before in
-    rw (← r .before .rule-place .ensures .1) (cuts-in (sym (r .is-room-of .ensures) ∙ c .before .if1 .taken) (c .cut-by-shape .ensures))
+    let d = c .before in
+    let i = d .before .before in
+    let r = i .before in
+    rw (← r .before .rule-place .ensures .1) (cuts-in (sym (r .is-room-of .ensures) ∙ i .if1 .taken) (d .cut-by-shape .ensures))
 
 returns-2 : tie.Need-returns-2
 unfolding roomHolds
@@ -28,4 +33,12 @@ returns-2 c =
     rw (← r .before .rule-place .ensures .1) (cuts-out _ (sym (r .is-room-of .ensures) ∙ c .if1 .left))
 
 pub cut-by-rule-spec : {M : Type 1} → statement M
-cut-by-rule-spec = tie.close (tie.spec rule-place-requires is-room-of-requires cut-by-shape-requires returns returns-2)
+cut-by-rule-spec =
+    tie.close
+    (tie.spec
+    rule-place-requires
+    is-room-of-requires
+    cut-by-shape-requires
+    same-length
+    returns
+    returns-2)

@@ -1,0 +1,140 @@
+-- `region::range_ends` meets its contract: so far the field is cut to the range of each dimension passed. Assumes nothing.
+use mathlib.Core.Path.{_≡_, refl, ap₂, _∙_}
+use mathlib.Core.Bool.{Bool}
+use mathlib.Core.List.{List}
+use Prim.Native.Nat.{ℕ, _≤_, _<_, _-_}
+use native.Mathlib.Omega.{arith}
+use denote.Ref.{now}
+use mir.Syntax.{w64}
+use mir.Val.{toZ, ofZ}
+use lib.IntN.{ℤ}
+use lib.ListN.{length, length-set}
+use Rattle.integers.specs.Integer.{within}
+use Rattle.integers.specs.Words.{word}
+use Rattle.integers.proofs.Ints.{ints}
+use Rattle.integers.proofs.Machine.{within-by, within-weaken}
+use Rattle.sheet.specs.Layout.{Lent, lentOf, axes, low, high}
+use Rattle.sheet.specs.Allowed.{inRanges}
+use Rattle.region.specs.Area.{coordinates, areaWords, areaOf}
+use Rattle.region.proofs.Sums.{bits-back}
+use Rattle.region.proofs.Fills.{Fills, fills-words, fills-ends}
+use Rattle.region.proofs.range_ends.Statement.{statement}
+use Rattle.region.proofs.range_ends.Tie as tie
+
+-- p lies in row i's range in dimension d
+abbrev inRange : Lent → List ℤ → ℕ → ℕ → List ℤ → Bool
+inRange lent t i d p = within (low lent t i d) (high lent t i d) (word p d)
+
+abbrev Inv-loop : tie.InvT-loop
+Inv-loop block table i k ends₀ d₀ ends d =
+    (d ≤ k) × (length ends ≡ areaWords) × Fills (axes (lentOf block)) d (areaOf ends) (inRange (lentOf block) table (i .number))
+
+abbrev μ-loop : tie.MeasureT-loop
+μ-loop block table i k ends₀ d₀ ends d = k - d
+
+axes-of-requires : tie.Need-axes-of-requires Inv-loop μ-loop
+axes-of-requires c κs = c .pre .0 .head
+
+sub-t7 : tie.Need-sub-t7 Inv-loop μ-loop
+sub-t7 c = omega ints
+
+sub-t8 : tie.Need-sub-t8 Inv-loop μ-loop
+sub-t8 c = omega ints
+
+sub-t9 : tie.Need-sub-t9 Inv-loop μ-loop
+sub-t9 c = omega ints
+
+sub-t10 : tie.Need-sub-t10 Inv-loop μ-loop
+sub-t10 c = omega ints
+
+loop-holds : tie.Need-loop-holds Inv-loop μ-loop
+loop-holds c = (omega arith, refl, fills-words _)
+
+-- the dimension at hand is an axis, and the row's range there
+module _ (c : tie.In-loop Inv-loop μ-loop) where
+  abbrev top : tie.Start Inv-loop μ-loop
+  top = c .before .before .before
+
+  is-axis : c .before .loop .d < axes (lentOf (now (c .before .before .before .args .block)))
+  is-axis = omega (arith, c .before .before .axes-of .ensures, c .loop-test .taken)
+
+  few : c .before .loop .d < coordinates
+  few = omega (arith, is-axis, top .pre .0 .head .few-axes)
+
+low-of-requires : tie.Need-low-of-requires Inv-loop μ-loop
+low-of-requires c κs = let s = top c in (s .pre .0 .head, s .pre .1 .whole, s .pre .2, is-axis c)
+
+mul-ends : tie.Need-mul-ends Inv-loop μ-loop
+mul-ends c = omega (arith, few (c .before))
+
+array-set-from-ends : tie.Need-array-set-from-ends Inv-loop μ-loop
+array-set-from-ends c = omega (arith, few (c .before), c .before .before .loop .inv .1)
+
+high-of-requires : tie.Need-high-of-requires Inv-loop μ-loop
+high-of-requires c κs = let s = top (c .before) in (s .pre .0 .head, s .pre .1 .whole, s .pre .2, is-axis (c .before))
+
+add-ends : tie.Need-add-ends Inv-loop μ-loop
+add-ends c = omega (arith, few (c .before .before))
+
+mul-ends-2 : tie.Need-mul-ends-2 Inv-loop μ-loop
+mul-ends-2 c = omega (arith, few (c .before .before))
+
+array-set-from-ends-2 : tie.Need-array-set-from-ends-2 Inv-loop μ-loop
+array-set-from-ends-2 c =
+    let l = c .before .before in
+    omega (arith, few l, length-set (l .before .loop .ends) (l .before .loop .d) (toZ w64 (ofZ w64 (c .before .low-of .result))))
+
+add-d : tie.Need-add-d Inv-loop μ-loop
+add-d c = omega (arith, few (c .before .before))
+
+loop-less : tie.Need-loop-less Inv-loop μ-loop
+loop-less c = omega (arith, c .before .before .loop-test .taken)
+
+loop-again : tie.Need-loop-again Inv-loop μ-loop
+loop-again c =
+    let m = c .before in
+    let l = m .before in
+    let i = l .before .loop .inv in
+    let s = top l in
+    let j = s .pre .2 in
+    let lo = bits-back (m .low-of .ok) ∙ m .low-of .ensures in
+    let hi = bits-back (c .high-of .ok) ∙ c .high-of .ensures in (
+      omega (arith, l .loop-test .taken),
+      simp length-set (i .1),
+      fills-ends (l .before .loop .ends) _ (i .2) (i .1) (few l) (is-axis l)
+          (within-by lo (within-weaken (omega arith) (s .pre .1 .lows _ _ (j .from) (j .upto) (is-axis l))))
+          (within-by hi (within-weaken (omega arith) (s .pre .1 .highs _ _ (j .from) (j .upto) (is-axis l))))
+          (λ p. ap₂ (λ (x y : ℤ). within x y (word p (l .before .loop .d))) lo hi),
+    )
+
+returns : tie.Need-returns Inv-loop μ-loop
+unfolding inRanges
+returns c =
+    let l = c .before in
+    let q : l .loop .d ≡ axes (lentOf (now (l .before .before .args .block))) =
+    omega (arith, l .before .axes-of .ensures, l .loop .inv .0, c .loop-test .left) in
+    rw q at (l .loop .inv .2 .cuts)
+
+pub range-ends-spec : {M : Type 1} → statement M
+range-ends-spec =
+    tie.close
+    (tie.spec
+    Inv-loop
+    μ-loop
+    axes-of-requires
+    sub-t7
+    sub-t8
+    sub-t9
+    sub-t10
+    loop-holds
+    low-of-requires
+    mul-ends
+    array-set-from-ends
+    high-of-requires
+    add-ends
+    mul-ends-2
+    array-set-from-ends-2
+    add-d
+    loop-less
+    loop-again
+    returns)

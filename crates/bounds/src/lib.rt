@@ -75,7 +75,7 @@ pub fn search(
         let to = bad.high;
         let last = sweep::turned_end(from, to, flip);
         sweep::jump_past(&mut state, last);
-        if !sweep::advance(&mut state, k, d, first, end) {
+        if !sweep::advance(&mut state, k, d, &first, &end) {
             return Spot {
                 found: false,
                 point: p,

@@ -12,7 +12,7 @@ use lib.Seq.{getD-set-same, getD-set-other}
 use Rattle.integers.specs.Integer.{within, Within}
 use Rattle.integers.specs.Words.{word}
 use Rattle.integers.proofs.Below.{below-or, last-or, all-at, at-all}
-use Rattle.integers.proofs.Machine.{within-pos, within-by}
+use Rattle.integers.proofs.Machine.{within-by}
 use Rattle.sheet.specs.Layout.{Lent, dims}
 use Rattle.sheet.specs.Allowed.{pairForbids}
 use Rattle.sheet.proofs.Forbidden.{axis}
@@ -74,26 +74,27 @@ module _ (at : ℕ) (l : List ℤ) (u v w : ℤ) where
     three-third : word three (at + 2) ≡ w
     three-third = getD-set-same two (at + 2) w (pos 0) (omega (arith, length-set l at u, length-set one (at + 1) v))
 
--- ---- zeros for the sides from dimension k to n
-abbrev pub Zeros : ℕ → ℕ → ℕ → List ℤ → Type 0
-Zeros at k n l = (x : ℕ) → 2 * k ≤ x → x < 2 * n → word l (at + x) ≡ pos 0
+-- ---- bounds within reach, from dimension k to n
+abbrev pub Bounded : ℕ → ℕ → ℕ → List ℤ → Type 0
+Bounded at k n l = (x : ℕ) → 2 * k ≤ x → x < 2 * n → Within reach (word l (at + x))
 
-pub zeros-more : (at k n : ℕ) (l : List ℤ) → at + 2 * n + 1 < length l → Zeros at k n l
-    → Zeros at k (n + 1) (set (set l (at + 2 * n) (pos 0)) (at + 2 * n + 1) (pos 0))
-zeros-more at k n l long zeros x from upto = ⊎-elim
-    (λ q. ap (word both) (let g : at + x ≡ at + 2 * n + 1 = omega arith in g)
-    ∙ getD-set-same half (at + 2 * n + 1) (pos 0) (pos 0) (omega (arith, length-set l (at + 2 * n) (pos 0))))
-    (λ g. getD-set-other half (at + 2 * n + 1) (at + x) (pos 0) (pos 0) (λ q. omega arith) ∙ ⊎-elim
-    (λ q. ap (word half) (let g : at + x ≡ at + 2 * n = omega arith in g) ∙ getD-set-same l (at + 2 * n) (pos 0) (pos 0) (omega arith))
-    (λ m. getD-set-other l (at + 2 * n) (at + x) (pos 0) (pos 0) (λ q. omega arith) ∙ zeros x from m)
-    (last-or {i = x} {n = 2 * n} (omega arith)))
+pub bounded-more : (at k n : ℕ) (l : List ℤ) (v w : ℤ) → at + 2 * n + 1 < length l → Within reach v → Within reach w → Bounded at k n l
+    → Bounded at k (n + 1) (set (set l (at + 2 * n) v) (at + 2 * n + 1) w)
+bounded-more at k n l v w long near-v near-w bounded x from upto = ⊎-elim
+    (λ q. let g : at + x ≡ at + 2 * n + 1 = omega arith in
+    within-by (ap (word both) g ∙ getD-set-same half (at + 2 * n + 1) w (pos 0) (omega (arith, length-set l (at + 2 * n) v))) near-w)
+    (λ g. within-by (getD-set-other half (at + 2 * n + 1) (at + x) w (pos 0) (λ q. omega arith)) (⊎-elim
+    (λ q. let g : at + x ≡ at + 2 * n = omega arith in
+    within-by (ap (word half) g ∙ getD-set-same l (at + 2 * n) v (pos 0) (omega arith)) near-v)
+    (λ m. within-by (getD-set-other l (at + 2 * n) (at + x) v (pos 0) (λ q. omega arith)) (bounded x from m))
+    (last-or {i = x} {n = 2 * n} (omega arith))))
     (last-or {i = x} {n = 2 * n + 1} (omega arith))
   where
     half : List ℤ
-    half = set l (at + 2 * n) (pos 0)
+    half = set l (at + 2 * n) v
 
     both : List ℤ
-    both = set half (at + 2 * n + 1) (pos 0)
+    both = set half (at + 2 * n + 1) w
 
 -- every number is twice another one, or one more
 halves : (x : ℕ) → (d : ℕ) × ((x ≡ 2 * d) ⊎ (x ≡ 2 * d + 1))
@@ -164,21 +165,21 @@ module _ (lent : Lent) (t : List ℤ) (r j c : ℕ) (h : Hull) where
   unfolding entryHolds pairForbids
   sides-fill e l s i b p q k = at-all (λ d m. s d m .1 .fills i b (word p d) q (all-at _ k d m))
 
-  -- every word is within reach, where zeros follow
-  sides-small : (at n : ℕ) (l : List ℤ) → Sides at n l → Zeros at n 4 l
+  -- every word is within reach, where the bounds that follow are
+  sides-small : (at n : ℕ) (l : List ℤ) → Sides at n l → Bounded at n 4 l
       → (x : ℕ) → x < 8 → Within reach (word l (at + x))
-  sides-small at n l s zeros x few = ⊎-elim
+  sides-small at n l s bounded x few = ⊎-elim
       (λ below. let y = halves x in ⊎-elim
       (λ q. let g : at + x ≡ at + 2 * y .0 = omega arith in within-by (ap (word l) g) (s (y .0) (omega arith) .0 .from-within))
       (λ q. let g : at + x ≡ at + 2 * y .0 + 1 = omega arith in within-by (ap (word l) g) (s (y .0) (omega arith) .0 .to-within))
       (y .1))
-      (λ from. within-by (zeros x from few) (within-pos (omega arith)))
+      (λ from. bounded x from few)
       (below-or x (2 * n))
 
-  -- three words, the sides after them and zeros are an entry
+  -- three words, the sides after them and bounds within reach are an entry
   module _ (e at : ℕ) (l : List ℤ) (u v w : ℤ) (m n : List ℤ) (k : ℕ) (q : at ≡ entryAt e) (long : at + 3 ≤ length l) (all : k ≡ dims lent)
       (s : SameTo (at + 3) (three at l u v w) m) (y : Sides (at + 3) (dims lent) m)
-      (z : SameTo (at + 3 + 2 * k) m n) (zeros : Zeros (at + 3) k 4 n) where
+      (z : SameTo (at + 3 + 2 * k) m n) (bounded : Bounded (at + 3) k 4 n) where
     written : SameTo (at + 3) (three at l u v w) n
     written = same-then s z (omega arith)
 
@@ -190,7 +191,7 @@ module _ (lent : Lent) (t : List ℤ) (r j c : ℕ) (h : Hull) where
     small : (x : ℕ) → x < 8 → Within reach (word n (entryAt e + 3 + x))
     small =
         sides-small (entryAt e + 3) (dims lent) n sides
-        (subst (λ (a : ℕ). Zeros (a + 3) (dims lent) 4 n) q (subst (λ (d : ℕ). Zeros (at + 3) d 4 n) all zeros))
+        (subst (λ (a : ℕ). Bounded (a + 3) (dims lent) 4 n) q (subst (λ (d : ℕ). Bounded (at + 3) d 4 n) all bounded))
 
     pub entered : u ≡ pos r → v ≡ pos j → w ≡ pos c → Entered lent t r j c h e l n
     entered ru jv cw = record {

@@ -144,12 +144,13 @@ module _ (lent : Lent) (t : List ℤ) (i s : ℕ) where
     met = λ w p j m h. clash h refl;
   }
 
-  pub listed-none : {l : List ℤ} (a : Area) → headLen ≤ length l → Listed lent t i s a l (record { count = 0; whole = false })
+  pub listed-none : {l : List ℤ} (a : Area) → headLen ≤ length l → Listed lent t i s a l (record { count = 0; whole = false; exact = false })
   listed-none a r p h = record {
     fits = omega (arith, r);
     entries = λ e k. absurd (omega (arith, k));
     solid = λ e k. absurd (omega (arith, k));
     met = λ w. clash w refl;
+    exact = λ w. clash w refl;
   }
 
   -- ---- nothing to add

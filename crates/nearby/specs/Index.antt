@@ -29,14 +29,16 @@ module _ (lent : Lent) (list : List ℤ) where
   abbrev pub firstOf : ℕ → ℕ
   firstOf s = nat (word list (firstAt s))
 
-  -- no box of a shape is passed over
+  -- each link is to a box of the shape, and none of its boxes is passed over
   pub record Index : Type 0 where
     pub first-count : (s : ℕ) → 1 ≤ s → s ≤ 32 → Count (word list (firstAt s))
     pub first-upto : (s : ℕ) → 1 ≤ s → s ≤ 32 → firstOf s ≤ boxes lent
+    pub first-is : (s : ℕ) → 1 ≤ s → s ≤ 32 → firstOf s < boxes lent → isOf lent (firstOf s) s ≡ true
     pub first-skips : (s b : ℕ) → 1 ≤ s → s ≤ 32 → b < firstOf s → isOf lent b s ≡ false
     pub next-count : (b : ℕ) → b < boxes lent → Count (word list (nextAt b))
     pub next-after : (b : ℕ) → b < boxes lent → b < nextOf b
     pub next-upto : (b : ℕ) → b < boxes lent → nextOf b ≤ boxes lent
+    pub next-is : (s b : ℕ) → 1 ≤ s → s ≤ 32 → b < boxes lent → isOf lent b s ≡ true → nextOf b < boxes lent → isOf lent (nextOf b) s ≡ true
     pub next-skips : (s b c : ℕ) → 1 ≤ s → s ≤ 32 → b < boxes lent → isOf lent b s ≡ true → b < c → c < nextOf b → isOf lent c s ≡ false
 
   -- a rule that counts forbids whatever rule r forbids: it names its rows, and no dimension that r does not

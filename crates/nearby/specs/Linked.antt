@@ -14,9 +14,12 @@ module _ (lent : Lent) (list : List ℤ) (m : ℕ) where
     pub first-count : (s : ℕ) → 1 ≤ s → s ≤ 32 → Count (word list (firstAt s))
     pub first-from : (s : ℕ) → 1 ≤ s → s ≤ 32 → m ≤ firstOf lent list s
     pub first-upto : (s : ℕ) → 1 ≤ s → s ≤ 32 → firstOf lent list s ≤ boxes lent
+    pub first-is : (s : ℕ) → 1 ≤ s → s ≤ 32 → firstOf lent list s < boxes lent → isOf lent (firstOf lent list s) s ≡ true
     pub first-skips : (s b : ℕ) → 1 ≤ s → s ≤ 32 → m ≤ b → b < firstOf lent list s → isOf lent b s ≡ false
     pub next-count : (b : ℕ) → m ≤ b → b < boxes lent → Count (word list (nextAt b))
     pub next-after : (b : ℕ) → m ≤ b → b < boxes lent → b < nextOf lent list b
     pub next-upto : (b : ℕ) → m ≤ b → b < boxes lent → nextOf lent list b ≤ boxes lent
+    pub next-is : (s b : ℕ) → 1 ≤ s → s ≤ 32 → m ≤ b → b < boxes lent → isOf lent b s ≡ true → nextOf lent list b < boxes lent
+        → isOf lent (nextOf lent list b) s ≡ true
     pub next-skips : (s b c : ℕ) → 1 ≤ s → s ≤ 32 → m ≤ b → b < boxes lent → isOf lent b s ≡ true → b < c → c < nextOf lent list b
         → isOf lent c s ≡ false

@@ -19,7 +19,7 @@ use Rattle.nearby.specs.declared.Nearby.{Nearby}
 use Rattle.nearby.specs.declared.entry.Query.{Query}
 use Rattle.nearby.specs.declared.side.Side.{Side}
 use Rattle.nearby.specs.Index.{Index, Rules}
-use Rattle.nearby.specs.Hull.{Hull, fourAt, hullAt, InHull, IsBox, Sole, HullTo}
+use Rattle.nearby.specs.Hull.{Hull, fourAt, hullAt, InHull, IsBox, Sole, Single, HullTo}
 
 -- how many words the head has, and an entry
 abbrev pub headLen : ℕ
@@ -171,6 +171,7 @@ module _ (lent : Lent) (t : List ℤ) where
         pub entries : (e : ℕ) → e < x .count → Entry e
         pub solid : (e : ℕ) → e < x .count → Solid e
         pub met : x .whole ≡ true → InField (dims lent) p → forbidden lent t i s p ≡ true → Met (x .count) p
+        pub exact : x .exact ≡ true → (x .whole ≡ true) × Single lent s
 
       -- a list of the area a with n entries: unless it is full, it has met the area's points that pass the test G
       pub record Gathered (n : ℕ) (a : Area) (G : List ℤ → Bool) : Type 0 where

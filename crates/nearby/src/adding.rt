@@ -4,7 +4,7 @@ ghost use mathlib.Core.Bool.{true, _&&_};
 ghost use Prim.Native.Nat.{_<_, _≤_};
 ghost use lib.IntN.{pos};
 ghost use Rattle.integers.specs.Bits.{bit};
-ghost use Rattle.sheet.specs.Layout.{lentOf, rules, rows, isOf, isNonOverlap, namesRow};
+ghost use Rattle.sheet.specs.Layout.{lentOf, rules, rows, isNonOverlap, namesRow};
 ghost use Rattle.sheet.specs.Allowed.{shapesForbid, rowForbids};
 ghost use Rattle.words.specs.Places.{BoxPlace, RulePlace, RowPlace};
 ghost use Rattle.forbid.specs.Region.{rowsForbid, ruleForbids};
@@ -48,32 +48,6 @@ fn add_box(
     count + 1
 }
 
-// Lists box c of row j, if it is one of shape t, the row's one shape.
-fn add_box_of(
-    block: &[i64],
-    table: &[i64],
-    list: &mut [i64],
-    count: usize,
-    q: Query,
-    x: Rival,
-    t: usize,
-) -> usize
-    requires { ⌜ Asks (lentOf (now block)) (now table) q × RulePlace (lentOf (now block)) (x .r)
-        × RowPlace (lentOf (now block)) (now table) (x .j) × BoxPlace (lentOf (now block)) (x .c)
-        × Opponent (lentOf (now block)) (now table) (q .i .number) (x .r .number) (x .j .number) t
-        × Open (lentOf (now block)) (now table) (q .i .number) (q .s) (now list) count ⌝ }
-    ensures { λ y. ⌜ Grows (lentOf (now (block .entry))) (now (table .entry)) (q .i .number) (q .s)
-        (λ p. isOf (lentOf (now (block .entry))) (x .c .number) t
-        && rivalForbids (lentOf (now (block .entry))) (now (table .entry)) (q .i .number) (q .s) (x .r .number) (x .j .number) (x .c .number) p)
-        (now (list .entry)) count (now (list .exit)) y ⌝ }
-{
-    let c = x.c;
-    if !words::box_is(block, c, t) {
-        return count;
-    }
-    add_box(block, table, list, count, q, x)
-}
-
 // Lists the boxes of row j, whose one shape is t.
 fn add_shape(
     block: &[i64],
@@ -98,7 +72,7 @@ fn add_shape(
     while at < n {
         let c = words::box_place(block, at);
         let x = Rival { r, j, c };
-        found = add_box_of(block, table, list, found, q, x, t);
+        found = add_box(block, table, list, found, q, x);
         at = index::after(block, list, c, t);
     }
     found

@@ -3,12 +3,13 @@ ghost use mathlib.Core.Path.{_≡_};
 ghost use mathlib.Core.Bool.{true, false};
 ghost use Prim.Native.Nat.{ℕ, suc, _+_, _*_, _<_, _≤_};
 ghost use lib.ListN.{length};
-ghost use lib.IntN.{ℤ, pos};
-ghost use Rattle.integers.specs.Integer.{nat, within};
+ghost use lib.IntN.{ℤ};
+ghost use Rattle.integers.specs.Integer.{within, Within};
 ghost use Rattle.integers.specs.Words.{word};
 ghost use Rattle.sheet.specs.Layout.{lentOf, dims};
 ghost use Rattle.sheet.specs.Accepted.{Head, Block, Table};
 ghost use Rattle.words.specs.Places.{BoxPlace, RulePlace, RowPlace};
+ghost use Rattle.region.specs.Area.{reach};
 ghost use Rattle.nearby.specs.Hull.{hullAt, Reaches, Fills};
 ghost use Rattle.nearby.specs.Listing.{areaAt, entryAt, entryHolds, entryArea, entryRule, entryRow, entryBox, sideAt, SameTo, Entered, Clear};
 ghost use Rattle.nearby.specs.Listing.{ShapeClear, Ready, Names};
@@ -19,6 +20,7 @@ use crate::layout::HEAD;
 use crate::side;
 use region::Area;
 use region::COORDINATES;
+use region::REACH;
 use words::Place;
 
 // Who is asked about: row i with shape s.
@@ -53,9 +55,9 @@ fn side_holds(list: &[i64], at: usize, z: i64) -> bool
 }
 
 // Whether p is in entry e's area.
-pub fn entry_holds(block: &[i64], list: &[i64], e: usize, p: [i64; COORDINATES]) -> bool
-    requires { ⌜ Head (lentOf (now block)) × (entryAt (suc e) ≤ length (now list)) ⌝ }
-    ensures { λ r. ⌜ r ≡ entryHolds (now (list .entry)) e (dims (lentOf (now (block .entry)))) p ⌝ }
+pub fn entry_holds(block: &[i64], list: &[i64], e: usize, p: &[i64]) -> bool
+    requires { ⌜ Head (lentOf (now block)) × (entryAt (suc e) ≤ length (now list)) × (4 ≤ length (now p)) ⌝ }
+    ensures { λ r. ⌜ r ≡ entryHolds (now (list .entry)) e (dims (lentOf (now (block .entry)))) (now (p .entry)) ⌝ }
 {
     let k = words::dims_of(block);
     let at = entry_at(list, e) + 3;
@@ -193,16 +195,16 @@ fn put_sides(block: &[i64], table: &[i64], list: &mut [i64], at: usize, x: Rival
     true
 }
 
-// Zeros for the bounds in the dimensions from k on.
+// Bounds that hold every number within reach, in the dimensions from k on.
 fn pad_sides(list: &mut [i64], at: usize, k: usize)
     requires { ⌜ (at + 8 ≤ length (now list)) × (k ≤ 4) ⌝ }
     ensures { λ _. ⌜ SameTo (at + 2 * k) (now (list .entry)) (now (list .exit))
-        × ((x : ℕ) → 2 * k ≤ x → x < 8 → word (now (list .exit)) (at + x) ≡ pos 0) ⌝ }
+        × ((x : ℕ) → 2 * k ≤ x → x < 8 → Within reach (word (now (list .exit)) (at + x))) ⌝ }
 {
     let mut d = k;
     while d < COORDINATES {
-        list[at + 2 * d] = 0;
-        list[at + 2 * d + 1] = 0;
+        list[at + 2 * d] = -REACH;
+        list[at + 2 * d + 1] = REACH;
         d += 1;
     }
 }

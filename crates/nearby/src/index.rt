@@ -68,27 +68,26 @@ pub fn index(block: &[i64], list: &mut [i64])
     }
 }
 
-// No box before it is one of shape s; the number of boxes where there is none.
+// The first box of shape s; the number of boxes where there is none.
 pub fn first_of(block: &[i64], list: &[i64], s: usize) -> usize
     requires { ⌜ (161 ≤ length (now list)) × Index (lentOf (now block)) (now list) × (1 ≤ s) × (s ≤ 32) ⌝ }
     ensures { λ r. ⌜ (r ≤ boxes (lentOf (now (block .entry))))
+        × (r < boxes (lentOf (now (block .entry))) → isOf (lentOf (now (block .entry))) r s ≡ true)
         × ((c : ℕ) → c < r → isOf (lentOf (now (block .entry))) c s ≡ false) ⌝ }
 {
     words::count_at(list, FIRST + s)
 }
 
-// A box after box b such that none between them is one of shape s; the number of boxes where there is none.
+// The next box of shape s after box b, which is one; the number of boxes where there is none.
 pub fn after(block: &[i64], list: &[i64], b: Place, s: usize) -> usize
     requires { ⌜ Block (lentOf (now block)) × (161 ≤ length (now list)) × Index (lentOf (now block)) (now list)
-        × BoxPlace (lentOf (now block)) b × (1 ≤ s) × (s ≤ 32) ⌝ }
+        × BoxPlace (lentOf (now block)) b × (isOf (lentOf (now block)) (b .number) s ≡ true) × (1 ≤ s) × (s ≤ 32) ⌝ }
     ensures { λ r. ⌜ (b .number < r) × (r ≤ boxes (lentOf (now (block .entry))))
+        × (r < boxes (lentOf (now (block .entry))) → isOf (lentOf (now (block .entry))) r s ≡ true)
         × ((c : ℕ) → b .number < c → c < r → isOf (lentOf (now (block .entry))) c s ≡ false) ⌝ }
 {
     let at = b.number;
-    if words::box_is(block, b, s) {
-        return words::count_at(list, at);
-    }
-    at + 1
+    words::count_at(list, at)
 }
 
 // Whether shape s has one box: no other follows the first.
@@ -102,8 +101,5 @@ pub fn is_single(block: &[i64], list: &[i64], s: usize) -> bool
         return false;
     }
     let b = words::box_place(block, first);
-    if !words::box_is(block, b, s) {
-        return false;
-    }
     after(block, list, b, s) >= n
 }

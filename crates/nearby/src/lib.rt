@@ -8,19 +8,17 @@ mod rules;
 mod side;
 
 ghost use mathlib.Core.Path.{_≡_};
-ghost use mathlib.Core.Bool.{true, false, _&&_};
+ghost use mathlib.Core.Bool.{true, false};
 ghost use Prim.Native.Nat.{_≤_, _<_};
 ghost use lib.ListN.{length};
 ghost use Rattle.integers.specs.Bits.{bit};
 ghost use Rattle.integers.specs.Words.{word};
-ghost use Rattle.sheet.specs.Layout.{lentOf, axes, rules, isOf, hasShape};
+ghost use Rattle.sheet.specs.Layout.{lentOf, axes, rules, hasShape};
 ghost use Rattle.sheet.specs.Allowed.{forbidden};
 ghost use Rattle.sheet.specs.Accepted.{Block, Table};
 ghost use Rattle.words.specs.Places.{RulePlace, RowPlace};
-ghost use Rattle.forbid.specs.Pair.{PairPlaces, forbiddenBy};
 ghost use Rattle.forbid.specs.Region.{Forbids, Asked};
 ghost use Rattle.nearby.specs.Index.{rulesAt};
-ghost use Rattle.nearby.specs.Hull.{Single};
 ghost use Rattle.nearby.specs.Listing.{Ready, Listed, ListedAt, ShapeClear, Unreached};
 use crate::entry::Query;
 use crate::layout::AREA;
@@ -38,10 +36,12 @@ pub const LIST: usize = 6365;
 
 pub const SMALL_LIST: usize = 1833;
 
-// The entries of a list, and whether it holds every one that can forbid a point of its area.
+// The entries of a list, whether it holds every one that can forbid a point of its area, and whether besides each forbids all of its own
+// area: so it is where the shape has one box.
 pub struct Nearby {
     pub count: usize,
     pub whole: bool,
+    pub exact: bool,
 }
 
 // Makes a list ready: its head says which boxes each shape has, which rules count, and the hull of each shape.
@@ -72,12 +72,14 @@ pub fn gather(
         return Nearby {
             count: 0,
             whole: false,
+            exact: false,
         };
     }
     if s > 32 {
         return Nearby {
             count: 0,
             whole: false,
+            exact: false,
         };
     }
     let low = area.low;
@@ -97,15 +99,17 @@ pub fn gather(
         return Nearby {
             count: found,
             whole: true,
+            exact: index::is_single(block, list, s),
         };
     }
     Nearby {
         count: 0,
         whole: false,
+        exact: false,
     }
 }
 
-// What forbids p among the entries, where shape s has one box: the areas that they have.
+// What forbids p among the entries of an exact list: their areas.
 fn exact_region(
     block: &[i64],
     table: &[i64],
@@ -116,15 +120,14 @@ fn exact_region(
     p: [i64; COORDINATES],
 ) -> Region
     requires { ⌜ Asked (lentOf (now block)) (now table) i p × Ready (lentOf (now block)) (now list)
-        × ListedAt (lentOf (now block)) (now table) (i .number) s (now list) nearby p × (nearby .whole ≡ true)
-        × Single (lentOf (now block)) s ⌝ }
+        × ListedAt (lentOf (now block)) (now table) (i .number) s (now list) nearby p × (nearby .exact ≡ true) ⌝ }
     ensures { λ x. ⌜ Forbids (axes (lentOf (now (block .entry))))
         (forbidden (lentOf (now (block .entry))) (now (table .entry)) (i .number) s) p x ⌝ }
 {
     let count = nearby.count;
     let mut e = 0;
     while e < count {
-        if entry::entry_holds(block, list, e, p) {
+        if entry::entry_holds(block, list, e, &p) {
             return Region {
                 hit: true,
                 area: entry::entry_area(list, e),
@@ -155,7 +158,7 @@ fn listed_region(
     let mut found = Region::none();
     let mut e = 0;
     'pairs: while e < count {
-        if entry::entry_holds(block, list, e, p) {
+        if entry::entry_holds(block, list, e, &p) {
             let x = entry::rival_at(block, table, list, e);
             let r = x.r;
             let j = x.j;
@@ -164,7 +167,7 @@ fn listed_region(
             while own < n {
                 let b = words::box_place(block, own);
                 let pair = Pair { r, i, b, j, c };
-                if own_forbids(block, table, pair, s, p) {
+                if pair::pair_forbids(block, table, pair, p) {
                     found = Region {
                         hit: true,
                         area: pair::pair_area(block, table, pair),
@@ -177,19 +180,6 @@ fn listed_region(
         e += 1;
     }
     found
-}
-
-// Whether the pair forbids p, and its own box is one of shape s.
-fn own_forbids(block: &[i64], table: &[i64], pair: Pair, s: usize, p: [i64; COORDINATES]) -> bool
-    requires { ⌜ PairPlaces (lentOf (now block)) (now table) pair ⌝ }
-    ensures { λ x. ⌜ x ≡ (isOf (lentOf (now (block .entry))) (pair .b .number) s
-        && forbiddenBy (lentOf (now (block .entry))) (now (table .entry)) pair p) ⌝ }
-{
-    let b = pair.b;
-    if words::box_is(block, b, s) {
-        return pair::pair_forbids(block, table, pair, p);
-    }
-    false
 }
 
 // Whether row i with shape s is forbidden at p, a point of the list's area, and where it is, an area around p in which it is.
@@ -207,13 +197,14 @@ pub fn region_at(
     ensures { λ x. ⌜ Forbids (axes (lentOf (now (block .entry))))
         (forbidden (lentOf (now (block .entry))) (now (table .entry)) (i .number) s) p x ⌝ }
 {
+    let exact = nearby.exact;
+    if exact {
+        return exact_region(block, table, list, nearby, i, s, p);
+    }
     let whole = nearby.whole;
     if whole {
         if s >= 1 {
             if s <= 32 {
-                if index::is_single(block, list, s) {
-                    return exact_region(block, table, list, nearby, i, s, p);
-                }
                 return listed_region(block, table, list, nearby, i, s, p);
             }
         }

@@ -107,9 +107,10 @@ pub fn jump_past(state: &mut [i64], last: [i64; AXES])
 
 // The next candidate, from the last position of the rotation down: the jump point's word where it lies in the range,
 // else the position starts again. False once no candidate is left.
-pub fn advance(state: &mut [i64], k: usize, d: usize, low: [i64; AXES], high: [i64; AXES]) -> bool
-    requires { ⌜ (length (now state) ≡ words) × Near high ⌝ }
-    ensures { λ r. ⌜ sweepOf (now (state .exit)) r ≡ advance (rotation k d) low high k (sweepOf (now (state .entry)) true) ⌝ }
+pub fn advance(state: &mut [i64], k: usize, d: usize, low: &[i64], high: &[i64]) -> bool
+    requires { ⌜ (length (now state) ≡ words) × (length (now low) ≡ axes) × (length (now high) ≡ axes) × Near (now high) ⌝ }
+    ensures { λ r. ⌜ sweepOf (now (state .exit)) r
+        ≡ advance (rotation k d) (now (low .entry)) (now (high .entry)) k (sweepOf (now (state .entry)) true) ⌝ }
 {
     let mut j = k;
     while 0 < j {

@@ -166,6 +166,9 @@ module _ (c : tie.After-turned-end3 Inv-loop μ-loop) where
   abbrev region : tie.After-region-at Inv-loop μ-loop
   region = c .before .before .before .before .before
 
+  abbrev swept : tie.After-turned-end2 Inv-loop μ-loop
+  swept = b (asked (region .before))
+
   last-length : length (c .turned-end3 .result) ≡ 4
   last-length = search needs
 
@@ -174,13 +177,13 @@ module _ (c : tie.After-turned-end3 Inv-loop μ-loop) where
 
 module _ (c : tie.After-advance Inv-loop μ-loop) where
   abbrev jump : tie.After-turned-end3 Inv-loop μ-loop
-  jump = c .before .before .before .before .before
+  jump = c .before .before .before .before .before .before .before
 
   abbrev point : tie.After-turned-point Inv-loop μ-loop
-  point = c .before .before .before .before .before .before .before .before .before .before .before
+  point = c .before .before .before .before .before .before .before .before .before .before .before .before .before
 
   abbrev l : tie.At-loop Inv-loop μ-loop
-  l = c .before .before .before .before .before .before .before .before .before .before .before .before .before .before
+  l = c .before .before .before .before .before .before .before .before .before .before .before .before .before .before .before .before
 
   abbrev b2 : tie.After-turned-end2 Inv-loop μ-loop
   b2 = l .before .before .before .before
@@ -192,7 +195,7 @@ module _ (c : tie.After-advance Inv-loop μ-loop) where
       ≡ advance (rotation (axes (lent b2)) (top b2 .args .d)) (first b2) (end b2) (axes (lent b2)) (jumpedPast (w l) (jump .turned-end3 .result))
   moves =
       c .advance .ensures
-      ∙ ap (advance (rotation (b2 .before .before .before .before .axes-of .result) (top b2 .args .d)) (first b2) (end b2) (b2 .before .before .before .before .axes-of .result)) (c .before .before .before .jump-past .ensures)
+      ∙ ap (advance (rotation (b2 .before .before .before .before .axes-of .result) (top b2 .args .d)) (first b2) (end b2) (b2 .before .before .before .before .axes-of .result)) (c .before .before .before .before .before .jump-past .ensures)
       ∙ ap (λ (n : ℕ). advance (rotation n (top b2 .args .d)) (first b2) (end b2) n (jumpedPast (w l) (jump .turned-end3 .result))) dims-are
 
   swept-next : Reached (axes (lent b2)) (rotation (axes (lent b2)) (top b2 .args .d)) (first b2) (end b2)
@@ -232,10 +235,17 @@ jump-past-requires c κs =
 slice-aggregate-advance : tie.Need-slice-aggregate-advance Inv-loop μ-loop
 slice-aggregate-advance c = search needs
 
+slice-aggregate-advance-2 : tie.Need-slice-aggregate-advance-2 Inv-loop μ-loop
+slice-aggregate-advance-2 c = sym (first-length (swept (c .before .before .before .before .before)))
+
+slice-aggregate-advance-3 : tie.Need-slice-aggregate-advance-3 Inv-loop μ-loop
+slice-aggregate-advance-3 c = sym (end-length (swept (c .before .before .before .before .before .before)))
+
 advance-requires : tie.Need-advance-requires Inv-loop μ-loop
 advance-requires c κs =
-    let n : length (c .before .before .jump-past .last .0) ≡ words = search needs in
-    (n, near-last (b (asked (region (c .before .before .before .before) .before))))
+    let n : length (c .before .before .before .before .jump-past .last .0) ≡ words = search needs in
+    let e = swept (c .before .before .before .before .before .before) in
+    (n, first-length e, end-length e, near-last e)
 
 returns-2 : tie.Need-returns-2 Inv-loop μ-loop
 returns-2 c =
@@ -275,6 +285,8 @@ search-spec =
     slice-aggregate-jump-past
     jump-past-requires
     slice-aggregate-advance
+    slice-aggregate-advance-2
+    slice-aggregate-advance-3
     advance-requires
     returns-2
     loop-less

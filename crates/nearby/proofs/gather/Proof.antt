@@ -126,24 +126,33 @@ long c =
     let w = written (c .before .before) in
     c .before .loop .inv .3 ∙ w .put-four2 .ensures .0 .long ∙ first w .put-four .ensures .0 .long
 
+is-single-requires : tie.Need-is-single-requires Inv-loop μ-loop
+is-single-requires c κs =
+    let l = c .before .before .before in
+    let a = asks (l .before) in
+    let r = l .loop .inv .1 .ready in
+    (a .block, omega (arith, r .long), r .index, a .from, a .upto)
+
 same-length : tie.Need-same-length Inv-loop μ-loop
-same-length c = long (c .before)
+same-length c = long (c .before .before .before)
 
 returns-3 : tie.Need-returns-3 Inv-loop μ-loop
 returns-3 c =
-    let l = c .before .before in
+    let t = c .before .before in
+    let l = t .before .before in
     let b = l .before in
     let w = written b in
     let a = begin b .args in
-    let q : l .loop .r ≡ rules (lentOf (now (a .block))) = omega (arith, b .rules-of .ensures, l .loop .inv .0, c .before .loop-test .left) in
+    let q : l .loop .r ≡ rules (lentOf (now (a .block))) = omega (arith, b .rules-of .ensures, l .loop .inv .0, t .before .loop-test .left) in
     let g = (rw q at (l .loop .inv .2)) .after (a .area) (λ p. false) (gathered-start _ _ _ _ (ready w) (area-is w)) in
-    let f = c .if3 .taken in (
+    let f = t .if3 .taken in (
       g .ready,
       λ p h. record {
         fits = g .fits f;
         entries = g .entries f;
         solid = g .solid f;
         met = λ u n k. g .met f p h n (counted-forbid _ _ _ _ _ (ready w .rules) _ (b .before .set-at .ensures) p k);
+        exact = λ u. (refl, c .is-single .ensures u);
       },
     )
 
@@ -171,6 +180,7 @@ gather-spec =
     add-r
     loop-less
     loop-again
+    is-single-requires
     same-length
     returns-3
     same-length-2

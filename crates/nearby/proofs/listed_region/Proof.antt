@@ -1,32 +1,26 @@
 -- `listed_region` meets its contract: so far no entry forbids the point, and the first that does is the region. Assumes nothing.
 use mathlib.Core.Path.{_≡_, refl, sym, ap, _∙_}
 use mathlib.Core.Logic.{⊎-elim}
-use mathlib.Core.Bool.{Bool, true, false, _&&_}
-use mathlib.Core.List.{List}
+use mathlib.Core.Bool.{Bool, true, false}
 use Prim.Native.Nat.{ℕ, suc, _≤_, _<_, _-_}
 use native.Mathlib.Omega.{arith}
 use denote.Ref.{now}
-use lib.IntN.{ℤ}
 use lib.ListN.{length}
 use borrow.Author.Needs.{needs}
 use Rattle.integers.specs.Below.{anyBelow}
-use Rattle.integers.proofs.Booleans.{and-true, fails}
 use Rattle.integers.proofs.Below.{any-zero, false-any}
-use Rattle.sheet.specs.Layout.{Lent, lentOf, boxes, dims, isOf}
-use Rattle.sheet.specs.Allowed.{pairForbids, forbidden}
-use Rattle.sheet.proofs.Forbidden.{axis}
-use Rattle.region.specs.Area.{InField}
+use Rattle.sheet.specs.Layout.{lentOf, boxes, isOf}
 use Rattle.forbid.specs.Pair.{PairPlaces}
 use Rattle.forbid.specs.Region.{noRegion}
 use Rattle.forbid.proofs.Regions.{cut-region, missed, forbids-by, none-more}
-use Rattle.nearby.specs.Listing.{entryAt, entryHolds, entryRule, entryRow, entryBox}
+use Rattle.nearby.specs.Listing.{entryAt}
 use Rattle.nearby.proofs.Searches.{ownForbids, entryForbids, none-skip, none-met, missed-entry, pair-same}
 use Rattle.nearby.proofs.listed_region.Statement.{statement}
 use Rattle.nearby.proofs.listed_region.Tie as tie
 
 abbrev Inv-loop : tie.InvT-loop
 Inv-loop block table list i s p n count found₀ e r j c own₀ found own =
-    (own ≤ n) × (found ≡ found₀)
+    (own ≤ n) × (own < n → isOf (lentOf block) own s ≡ true) × (found ≡ found₀)
     × (anyBelow own (λ b. ownForbids (lentOf block) table (i .number) s (r .number) (j .number) (c .number) b p) ≡ false)
 
 abbrev μ-loop : tie.MeasureT-loop
@@ -59,29 +53,38 @@ module _ (l : tie.In-pairs Inv-loop μ-loop Inv-pairs μ-pairs) where
   room : entryAt (suc (l .before .pairs .e)) ≤ length (now (l .before .before .before .before .args .list))
   room = omega (arith, top .pre .2 .fits, l .pairs-test .taken)
 
+  -- the point has four coordinates
+  four : length (l .before .before .before .before .args .t7) ≡ 4
+  four = top .good .1 .1 .1 .1 .1 .1 .0 .1 .0 .1
+
+slice-aggregate-entry-holds : tie.Need-slice-aggregate-entry-holds Inv-loop μ-loop Inv-pairs μ-pairs
+slice-aggregate-entry-holds c = search needs
+
 entry-holds-requires : tie.Need-entry-holds-requires Inv-loop μ-loop Inv-pairs μ-pairs
-entry-holds-requires c κs = (top c .pre .0 .block .head, room c)
+entry-holds-requires c κs = let l = c .before in (top l .pre .0 .block .head, room l, omega (arith, four l))
 
 rival-at-requires : tie.Need-rival-at-requires Inv-loop μ-loop Inv-pairs μ-pairs
 rival-at-requires c κs =
-    let l = c .before .before in
+    let l = c .before .before .before in
     let p = top l .pre in
     (p .0 .block, p .0 .table, room l, p .2 .entries _ (below-count l) .names)
 
 first-of-requires : tie.Need-first-of-requires Inv-loop μ-loop Inv-pairs μ-pairs
 first-of-requires c κs =
-    let p = top (c .before .before .before .before .before .before) .pre in
+    let p = top (c .before .before .before .before .before .before .before) .pre in
     (omega (arith, p .1 .long), p .1 .index, p .4, p .5)
 
 loop-holds : tie.Need-loop-holds Inv-loop μ-loop Inv-pairs μ-pairs
 loop-holds c =
     let x = c .before .before .before .before in
-    let l = x .before .before .before in
+    let l = x .before .before .before .before in
+    let n = l .before .before .before .boxes-of .ensures in
     let a = top l .args in (
-      omega (arith, l .before .before .before .boxes-of .ensures, c .first-of .ensures .0),
+      omega (arith, n, c .first-of .ensures .0),
+      λ h. c .first-of .ensures .1 (omega (arith, n, h)),
       refl,
       false-any {f = λ b. ownForbids (lentOf (now (a .block))) (now (a .table)) (a .i .number) (a .s) (x .rival-at .result .r .number)
-          (x .rival-at .result .j .number) (x .rival-at .result .c .number) b (a .p)} (λ m h. rw (c .first-of .ensures .1 m h)),
+          (x .rival-at .result .j .number) (x .rival-at .result .c .number) b (a .t7)} (λ m h. rw (c .first-of .ensures .2 m h)),
     )
 
 -- own box b
@@ -90,7 +93,7 @@ module _ (c : tie.In-loop Inv-loop μ-loop Inv-pairs μ-pairs) where
   rival = c .before .before .before .before .before .before
 
   abbrev line : tie.In-pairs Inv-loop μ-loop Inv-pairs μ-pairs
-  line = c .before .before .before .before .before .before .before .before .before
+  line = c .before .before .before .before .before .before .before .before .before .before
 
   below : c .before .loop .own < boxes (lentOf (now (top line .args .block)))
   below = omega (arith, line .before .before .before .boxes-of .ensures, c .loop-test .taken)
@@ -122,8 +125,14 @@ module _ (c : tie.After-box-place Inv-loop μ-loop Inv-pairs μ-pairs) where
         other = x .2;
       }
 
-own-forbids-requires : tie.Need-own-forbids-requires Inv-loop μ-loop Inv-pairs μ-pairs
-own-forbids-requires c κs = places c
+  -- it is one of the shape
+  is : isOf (lentOf (now (s .args .block))) (c .box-place .result .number) (s .args .s) ≡ true
+  is =
+      ap (λ (m : ℕ). isOf (lentOf (now (s .args .block))) m (s .args .s)) (c .box-place .ensures .1)
+      ∙ c .before .before .loop .inv .1 (c .before .loop-test .taken)
+
+pair-forbids-requires : tie.Need-pair-forbids-requires Inv-loop μ-loop Inv-pairs μ-pairs
+pair-forbids-requires c κs = places c
 
 pair-area-requires : tie.Need-pair-area-requires Inv-loop μ-loop Inv-pairs μ-pairs
 pair-area-requires c κs = places (c .before .before)
@@ -132,7 +141,7 @@ after-requires : tie.Need-after-requires Inv-loop μ-loop Inv-pairs μ-pairs
 after-requires c κs =
     let b = c .before .before in
     let p = s b .pre in
-    (p .0 .block, omega (arith, p .1 .long), p .1 .index, b .box-place .ensures .0, p .4, p .5)
+    (p .0 .block, omega (arith, p .1 .long), p .1 .index, b .box-place .ensures .0, is b, p .4, p .5)
 
 loop-less : tie.Need-loop-less Inv-loop μ-loop Inv-pairs μ-pairs
 loop-less c =
@@ -146,12 +155,15 @@ loop-again c =
     let l = b .before in
     let a = s b .args in
     let x = rival l .rival-at .result in
+    let n = line l .before .before .before .boxes-of .ensures in
     let e = b .box-place .ensures .1 in
-    let own : ℕ → Bool = λ m. ownForbids (lentOf (now (a .block))) (now (a .table)) (a .i .number) (a .s) (x .r .number) (x .j .number) (x .c .number) m (a .p) in (
-      omega (arith, c .after .ensures .1, line l .before .before .before .boxes-of .ensures),
-      l .before .loop .inv .1,
-      none-skip own (l .before .loop .inv .2) (ap own (sym e) ∙ sym (f .own-forbids .ensures) ∙ c .before .if2 .left)
-          (λ y h k. rw (c .after .ensures .2 y (omega (arith, e)) k)),
+    let own : ℕ → Bool = λ m.
+    ownForbids (lentOf (now (a .block))) (now (a .table)) (a .i .number) (a .s) (x .r .number) (x .j .number) (x .c .number) m (a .t7) in (
+      omega (arith, c .after .ensures .1, n),
+      λ h. c .after .ensures .2 (omega (arith, n, h)),
+      l .before .loop .inv .2,
+      none-skip own (l .before .loop .inv .3) (ap own (sym e) ∙ rw (is b) (sym (f .pair-forbids .ensures) ∙ c .before .if2 .left))
+          (λ y h k. rw (c .after .ensures .3 y (omega (arith, e)) k)),
     )
 
 add-e : tie.Need-add-e Inv-loop μ-loop Inv-pairs μ-pairs
@@ -163,16 +175,16 @@ pairs-less c = omega arith
 pairs-again : tie.Need-pairs-again Inv-loop μ-loop Inv-pairs μ-pairs
 pairs-again c =
     let h = c .before in
-    let l = h .before in
+    let l = h .before .before in
     let a = top l .args in
     let lent = lentOf (now (a .block)) in (
       omega arith,
-      ⊎-elim (λ w. w .8 ∙ w .6 .inv .1 ∙ l .before .pairs .inv .1) (λ w. w .1 ∙ l .before .pairs .inv .1) (c .if1 .came),
+      ⊎-elim (λ w. w .8 ∙ w .6 .inv .2 ∙ l .before .pairs .inv .1) (λ w. w .1 ∙ l .before .pairs .inv .1) (c .if1 .came),
       none-more _ (l .before .pairs .inv .2)
           (⊎-elim
           (λ w. let x = w .1 .ensures in
-          missed-entry lent (now (a .table)) (a .i .number) (a .s) (now (a .list)) (l .before .pairs .e) (a .p) (x .3) (x .4) (x .5)
-          (omega (arith, w .6 .inv .0, w .7 .left, l .before .before .before .boxes-of .ensures)) (w .6 .inv .2))
+          missed-entry lent (now (a .table)) (a .i .number) (a .s) (now (a .list)) (l .before .pairs .e) (a .t7) (x .3) (x .4) (x .5)
+          (omega (arith, w .6 .inv .0, w .7 .left, l .before .before .before .boxes-of .ensures)) (w .6 .inv .3))
           (λ w. rw (sym (h .entry-holds .ensures) ∙ w .0 .left))
           (c .if1 .came)),
     )
@@ -193,11 +205,10 @@ returns-2 c =
     let lent = lentOf (now (a .block)) in
     let l = line (b .before) in
     let x = rival (b .before) .rival-at in
-    let h = and-true (sym (f .own-forbids .ensures) ∙ c .before .if2 .taken) in
     forbids-by (λ q e. w .2 .entries (l .before .pairs .e) (below-count l) .sound .forbids (b .box-place .result .number) q
-    (places b .own .below) (h .0)
+    (places b .own .below) (is b)
     (pair-same lent (now (a .table)) (a .i .number) (a .s) (b .box-place .result .number) q (x .ensures .3) (x .ensures .4) (x .ensures .5) e)) refl
-    (cut-region (w .0 .block .head .few-axes) (w .0 .near) (h .1) (c .pair-area .ensures))
+    (cut-region (w .0 .block .head .few-axes) (w .0 .near) (sym (f .pair-forbids .ensures) ∙ c .before .if2 .taken) (c .pair-area .ensures))
 
 pub listed-region-spec : {M : Type 1} → statement M
 listed-region-spec =
@@ -210,12 +221,13 @@ listed-region-spec =
     boxes-of-requires
     none-requires
     pairs-holds
+    slice-aggregate-entry-holds
     entry-holds-requires
     rival-at-requires
     first-of-requires
     loop-holds
     box-place-requires
-    own-forbids-requires
+    pair-forbids-requires
     pair-area-requires
     after-requires
     loop-less

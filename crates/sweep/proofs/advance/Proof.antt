@@ -57,10 +57,10 @@ module _ (c : tie.After-end Inv-loop μ-loop) where
   order = rotation (c .before .before .before .before .before .args .k) (c .before .before .before .before .before .args .d)
 
   abbrev low : List ℤ
-  low = c .before .before .before .before .before .args .t4
+  low = c .before .before .before .before .before .args .low .now
 
   abbrev high : List ℤ
-  high = c .before .before .before .before .before .args .t5
+  high = c .before .before .before .before .before .args .high .now
 
   abbrev s : Sweep
   s = sweepOf (c .before .before .before .before .loop .state) true
@@ -72,7 +72,7 @@ module _ (c : tie.After-end Inv-loop μ-loop) where
   end-read = toZ-ofZ (fits-word _ (c .end .given))
 
   end-near : Within reach (toZ w64 (ofZ w64 (word high i)))
-  end-near = within-by end-read (c .before .before .before .before .before .pre .1 .near i)
+  end-near = within-by end-read (c .before .before .before .before .before .pre .3 .near i)
 
   -- both turns of AdjustUp, with the words as the machine holds them
   found : word (s .jump) i ≤ℤ word high i
@@ -108,8 +108,8 @@ slice-copy-out-up c = omega (arith, dim-below c, c .before .before .loop .inv .0
 mul-end : tie.Need-mul-end Inv-loop μ-loop
 mul-end c = omega (arith, dim-below (c .before))
 
-array-copy-out-end : tie.Need-array-copy-out-end Inv-loop μ-loop
-array-copy-out-end c = dim-below (c .before)
+shared-slice-copy-out-end : tie.Need-shared-slice-copy-out-end Inv-loop μ-loop
+shared-slice-copy-out-end c = omega (arith, dim-below (c .before), c .before .before .before .before .pre .2)
 
 place-requires : tie.Need-place-requires Inv-loop μ-loop
 place-requires c κs = let e = c .before .before in (at-loop e .loop .inv .0, dim-below (e .before .before), end-near e)
@@ -129,8 +129,8 @@ returns c =
 mul-place : tie.Need-mul-place Inv-loop μ-loop
 mul-place c = omega (arith, dim-below (c .before .before .before .before))
 
-array-copy-out-place : tie.Need-array-copy-out-place Inv-loop μ-loop
-array-copy-out-place c = dim-below (c .before .before .before .before)
+shared-slice-copy-out-place : tie.Need-shared-slice-copy-out-place Inv-loop μ-loop
+shared-slice-copy-out-place c = let r = c .before .before .before .before in omega (arith, dim-below r, r .before .before .before .pre .1)
 
 place-requires-2 : tie.Need-place-requires-2 Inv-loop μ-loop
 place-requires-2 c κs = let e = c .before .before .before in (at-loop e .loop .inv .0, dim-below (e .before .before), end-near e)
@@ -158,7 +158,7 @@ returns-2 : tie.Need-returns-2 Inv-loop μ-loop
 returns-2 c =
     let a = c .before .before .args in
     let l = c .before .loop in
-    sym (adjust-none (rotation (a .k) (a .d)) (a .t4) (a .t5) (sweepOf (l .state) true) (l .j) (omega arith)) ∙ l .inv .1
+    sym (adjust-none (rotation (a .k) (a .d)) (a .low .now) (a .high .now) (sweepOf (l .state) true) (l .j) (omega arith)) ∙ l .inv .1
 
 pub advance-spec : {M : Type 1} → statement M
 advance-spec =
@@ -173,12 +173,12 @@ advance-spec =
     mul-up
     slice-copy-out-up
     mul-end
-    array-copy-out-end
+    shared-slice-copy-out-end
     place-requires
     same-length
     returns
     mul-place
-    array-copy-out-place
+    shared-slice-copy-out-place
     place-requires-2
     loop-less
     loop-again

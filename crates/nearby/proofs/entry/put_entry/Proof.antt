@@ -1,4 +1,4 @@
--- `entry::put_entry` meets its contract: three words, the sides after them and zeros, and the words before stay. Assumes nothing.
+-- `entry::put_entry` meets its contract: three words, the sides after them and bounds within reach, and the words before stay. Assumes nothing.
 use mathlib.Core.Path.{_≡_, refl, subst}
 use mathlib.Core.List.{List}
 use Prim.Native.Nat.{ℕ, _+_, _≤_}
@@ -170,7 +170,7 @@ pad-sides-requires c κs =
     let t = s (e d) in
     (omega (arith, long (e d), sided-same d .long), omega (arith, k .dims-of .ensures, t .pre .0 .head .few-dims))
 
--- and the zeros
+-- and the bounds after them
 module _ (c : tie.After-pad-sides) where
   abbrev k : tie.After-dims-of
   k = c .before .before

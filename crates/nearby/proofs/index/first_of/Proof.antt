@@ -13,8 +13,11 @@ count-at-requires c κs = let p = c .pre in (omega arith, p .1 .first-count _ (p
 returns : tie.Need-returns
 returns c =
     let p = c .before .pre in
-    let e = c .count-at .ensures in
-    (rw e (p .1 .first-upto _ (p .2) (p .3)), λ b l. p .1 .first-skips _ b (p .2) (p .3) (rw e at l))
+    let e = c .count-at .ensures in (
+      rw e (p .1 .first-upto _ (p .2) (p .3)),
+      λ n. rw e (p .1 .first-is _ (p .2) (p .3) (rw e at n)),
+      λ b l. p .1 .first-skips _ b (p .2) (p .3) (rw e at l),
+    )
 
 pub first-of-spec : {M : Type 1} → statement M
 first-of-spec = tie.close (tie.spec add-count-at count-at-requires returns)

@@ -6,3 +6,4 @@ pub mod Hulls
 pub mod Entries
 pub mod Gathers
 pub mod Searches
+pub mod Windows

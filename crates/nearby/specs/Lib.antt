@@ -3,3 +3,4 @@ pub mod Linked
 pub mod Counted
 pub mod Hull
 pub mod Listing
+pub mod Window

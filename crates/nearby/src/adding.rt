@@ -17,7 +17,7 @@ use crate::layout::ENTRY;
 use crate::layout::FULL;
 use words::Place;
 
-// Lists one box of another row, if it can forbid a point of the area and there is room.
+// Lists one box of another row, if it can forbid a point of the area. How many entries there are then; FULL where it found no room.
 fn add_box(
     block: &[i64],
     table: &[i64],

@@ -6,6 +6,7 @@ mod index;
 mod layout;
 mod rules;
 mod side;
+mod window;
 
 ghost use mathlib.Core.Path.{_≡_};
 ghost use mathlib.Core.Bool.{true, false};
@@ -24,6 +25,7 @@ use crate::entry::Query;
 use crate::layout::AREA;
 use crate::layout::FULL;
 use crate::layout::RULES;
+use crate::window::WINDOW;
 use forbid::Region;
 use forbid::pair;
 use forbid::pair::Pair;
@@ -156,6 +158,7 @@ fn listed_region(
     let n = words::boxes_of(block);
     let count = nearby.count;
     let mut found = Region::none();
+    let mut window = [0i64; WINDOW];
     let mut e = 0;
     'pairs: while e < count {
         if entry::entry_holds(block, list, e, &p) {
@@ -163,11 +166,12 @@ fn listed_region(
             let r = x.r;
             let j = x.j;
             let c = x.c;
+            window::put_window(block, table, &mut window, x, &p);
             let mut own = index::first_of(block, list, s);
             while own < n {
                 let b = words::box_place(block, own);
-                let pair = Pair { r, i, b, j, c };
-                if pair::pair_forbids(block, table, pair, p) {
+                if window::is_reached(block, &window, b) {
+                    let pair = Pair { r, i, b, j, c };
                     found = Region {
                         hit: true,
                         area: pair::pair_area(block, table, pair),

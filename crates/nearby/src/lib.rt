@@ -33,10 +33,12 @@ use region::Area;
 use region::COORDINATES;
 use words::Place;
 
-// How many words a caller lends for a list: the head, and 540 entries; or 128, for a small sheet.
+// How many words a caller lends for a list: the head, and 540 entries; or 128 or 32, for a small sheet.
 pub const LIST: usize = 6365;
 
 pub const SMALL_LIST: usize = 1833;
+
+pub const TINY_LIST: usize = 777;
 
 // The entries of a list, whether it holds every one that can forbid a point of its area, and whether besides each forbids all of its own
 // area: so it is where the shape has one box.

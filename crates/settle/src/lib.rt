@@ -4,7 +4,6 @@ ghost use mathlib.Core.Path.{_≡_};
 ghost use mathlib.Core.Bool.{true, false};
 ghost use Prim.Native.Nat.{ℕ, _+_, _*_, _<_, _≤_};
 ghost use mathlib.Core.Logic.{_⊎_};
-ghost use lib.Dec.{leb};
 ghost use lib.ListN.{length};
 ghost use Rattle.integers.specs.Bits.{bit};
 ghost use Rattle.integers.specs.Words.{word};
@@ -18,6 +17,7 @@ ghost use Rattle.settle.specs.Demand.{Promise};
 use narrow::Step;
 use nearby::LIST;
 use nearby::SMALL_LIST;
+use nearby::TINY_LIST;
 use sheet::Settling;
 use words::Place;
 
@@ -192,12 +192,12 @@ fn settle_rows(block: &[i64], table: &mut [i64], list: &mut [i64]) -> bool
     }
 }
 
-// Whether the sheet is small: its rows times its boxes are no more than 256.
-fn is_small(block: &[i64], table: &[i64]) -> bool
+// The rows times the boxes: what a list has to hold for a rule is less.
+fn rows_times_boxes(block: &[i64], table: &[i64]) -> usize
     requires { ⌜ Head (lentOf (now block)) × Rows (lentOf (now block)) (now table) ⌝ }
-    ensures { λ r. ⌜ r ≡ leb (rows (lentOf (now (block .entry))) (now (table .entry)) * boxes (lentOf (now (block .entry)))) 256 ⌝ }
+    ensures { λ r. ⌜ r ≡ rows (lentOf (now (block .entry))) (now (table .entry)) * boxes (lentOf (now (block .entry))) ⌝ }
 {
-    words::rows_of(block, table) * words::boxes_of(block) <= 256
+    words::rows_of(block, table) * words::boxes_of(block)
 }
 
 // Settles the table of an accepted sheet, or leaves it as it was. The list's words may be any.
@@ -224,7 +224,12 @@ pub fn settle(block: &[i64], table: &mut [i64]) -> Settling
     if g > 0 {
         return Settling::Refused(g);
     }
-    if is_small(block, table) {
+    let most = rows_times_boxes(block, table);
+    if most <= 64 {
+        let mut list = [0i64; TINY_LIST];
+        return settle_with(block, table, &mut list);
+    }
+    if most <= 256 {
         let mut list = [0i64; SMALL_LIST];
         return settle_with(block, table, &mut list);
     }

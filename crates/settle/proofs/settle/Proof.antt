@@ -1,4 +1,4 @@
--- `settle::settle` meets its contract: it answers the refusal, or as `settle_with` does, with either list. Assumes nothing.
+-- `settle::settle` meets its contract: it answers the refusal, or as `settle_with` does, with one of the lists. Assumes nothing.
 use mathlib.Core.Path.{_≡_, sym, ap, _∙_, subst}
 use mathlib.Core.List.{List}
 use Prim.Native.Nat.{ℕ}
@@ -59,8 +59,8 @@ module _ (e : tie.Else1) where
   promised r left =
       subst (λ (g : ℕ). (r ≡ settleAnswer g (settleOf lent t)) × (left ≡ tableAfter g t (settleOf lent t))) (sym passed)
 
-is-small-requires : tie.Need-is-small-requires
-is-small-requires c κs = let e = c .before in (block e .head, table e .whole)
+rows-times-boxes-requires : tie.Need-rows-times-boxes-requires
+rows-times-boxes-requires c κs = let e = c .before in (block e .head, table e .whole)
 
 slice-aggregate-settle-with : tie.Need-slice-aggregate-settle-with
 slice-aggregate-settle-with c = search needs
@@ -80,7 +80,7 @@ slice-aggregate-settle-with-2 : tie.Need-slice-aggregate-settle-with-2
 slice-aggregate-settle-with-2 c = search needs
 
 settle-with-requires-2 : tie.Need-settle-with-requires-2
-settle-with-requires-2 c κs = let e = c .before .before .before .before .before in (block e, table e, omega arith)
+settle-with-requires-2 c κs = let e = c .before .before .before .before .before .before in (block e, table e, omega arith)
 
 same-length-3 : tie.Need-same-length-3
 same-length-3 c = search needs
@@ -88,7 +88,21 @@ same-length-3 c = search needs
 returns-3 : tie.Need-returns-3
 returns-3 c =
     let w = c .before .before in
-    promised (w .before .before .before .before .before .before) (w .settle-with2 .result) (w .settle-with2 .last .1 .0) (w .settle-with2 .ensures)
+    promised (w .before .before .before .before .before .before .before) (w .settle-with2 .result) (w .settle-with2 .last .1 .0) (w .settle-with2 .ensures)
+
+slice-aggregate-settle-with-3 : tie.Need-slice-aggregate-settle-with-3
+slice-aggregate-settle-with-3 c = search needs
+
+settle-with-requires-3 : tie.Need-settle-with-requires-3
+settle-with-requires-3 c κs = let e = c .before .before .before .before .before .before in (block e, table e, omega arith)
+
+same-length-4 : tie.Need-same-length-4
+same-length-4 c = search needs
+
+returns-4 : tie.Need-returns-4
+returns-4 c =
+    let w = c .before .before in
+    promised (w .before .before .before .before .before .before .before) (w .settle-with3 .result) (w .settle-with3 .last .1 .0) (w .settle-with3 .ensures)
 
 pub settle-spec : {M : Type 1} → statement M
 settle-spec =
@@ -97,7 +111,7 @@ settle-spec =
     refusal-requires
     same-length
     returns
-    is-small-requires
+    rows-times-boxes-requires
     slice-aggregate-settle-with
     settle-with-requires
     same-length-2
@@ -105,4 +119,8 @@ settle-spec =
     slice-aggregate-settle-with-2
     settle-with-requires-2
     same-length-3
-    returns-3)
+    returns-3
+    slice-aggregate-settle-with-3
+    settle-with-requires-3
+    same-length-4
+    returns-4)

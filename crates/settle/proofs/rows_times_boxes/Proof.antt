@@ -1,12 +1,11 @@
--- `settle::is_small` meets its contract: the product of two counts fits. Assumes nothing.
+-- `settle::rows_times_boxes` meets its contract: the product of two counts fits. Assumes nothing.
 use mathlib.Core.Path.{ap₂}
 use Prim.Native.Nat.{ℕ, _*_, _≤_}
 use native.Mathlib.Nat.{mul-le-mul}
 use native.Mathlib.Omega.{arith}
 use borrow.Author.Needs.{needs}
-use lib.Dec.{leb}
-use Rattle.settle.proofs.is_small.Statement.{statement}
-use Rattle.settle.proofs.is_small.Tie as tie
+use Rattle.settle.proofs.rows_times_boxes.Statement.{statement}
+use Rattle.settle.proofs.rows_times_boxes.Tie as tie
 
 rows-of-requires : tie.Need-rows-of-requires
 rows-of-requires c κs = search needs
@@ -23,7 +22,7 @@ mul-result c =
     omega (arith, mul-le-mul rows boxes)
 
 returns : tie.Need-returns
-returns c = ap₂ (λ (n k : ℕ). leb (n * k) 256) (c .before .rows-of .ensures) (c .boxes-of .ensures)
+returns c = ap₂ _*_ (c .before .rows-of .ensures) (c .boxes-of .ensures)
 
-pub is-small-spec : {M : Type 1} → statement M
-is-small-spec = tie.close (tie.spec rows-of-requires boxes-of-requires mul-result returns)
+pub rows-times-boxes-spec : {M : Type 1} → statement M
+rows-times-boxes-spec = tie.close (tie.spec rows-of-requires boxes-of-requires mul-result returns)

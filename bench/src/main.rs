@@ -10,6 +10,7 @@ mod kernel;
 mod plain;
 mod selftest;
 mod sheet;
+mod sweep;
 mod tuned;
 
 use generate::{line_sheet, Line, STYLES};

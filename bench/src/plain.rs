@@ -6,6 +6,7 @@
 
 use crate::decode::{Area, Copies, Decoded, Point, Row, Rows, Solid};
 use crate::sheet::refusal;
+use crate::sweep;
 
 /// As `zk_settle`.
 pub fn direct(block: &[i64], table: &mut [i64]) -> i64 {
@@ -136,54 +137,10 @@ fn narrowed<T: Tested>(sheet: &Decoded, rows: &Rows, i: usize, tested: &mut T) -
 #[inline(always)]
 fn pruned(sheet: &Decoded, cut: &mut Area, region: impl Fn(&Point) -> Option<Area>) -> bool {
     for d in 0..sheet.k {
-        let Some(low) = least(sheet.k, d, cut, &region) else { return false };
-        cut.low[d] = low;
-        let Some(high) = greatest(sheet.k, d, cut, &region) else { return false };
-        cut.high[d] = high;
+        let Some(low) = sweep::least(sheet.k, d, cut, &region) else { return false };
+        cut.low[d] = low[d];
+        let Some(high) = sweep::greatest(sheet.k, d, cut, &region) else { return false };
+        cut.high[d] = high[d];
     }
     true
-}
-
-/// The least coordinate in dimension d of the area's points that have no region.
-fn least(k: usize, d: usize, area: &Area, region: impl Fn(&Point) -> Option<Area>) -> Option<i64> {
-    let mut candidate = area.low;
-    let mut jump = area.high.map(|x| x + 1);
-    'candidates: while let Some(forbidden) = region(&candidate) {
-        for e in 0..k {
-            jump[e] = jump[e].min(forbidden.high[e] + 1);
-        }
-        for j in (0..k).rev() {
-            let e = (j + d) % k;
-            candidate[e] = jump[e];
-            jump[e] = area.high[e] + 1;
-            if candidate[e] <= area.high[e] {
-                continue 'candidates;
-            }
-            candidate[e] = area.low[e];
-        }
-        return None;
-    }
-    Some(candidate[d])
-}
-
-/// The greatest one.
-fn greatest(k: usize, d: usize, area: &Area, region: impl Fn(&Point) -> Option<Area>) -> Option<i64> {
-    let mut candidate = area.high;
-    let mut jump = area.low.map(|x| x - 1);
-    'candidates: while let Some(forbidden) = region(&candidate) {
-        for e in 0..k {
-            jump[e] = jump[e].max(forbidden.low[e] - 1);
-        }
-        for j in (0..k).rev() {
-            let e = (j + d) % k;
-            candidate[e] = jump[e];
-            jump[e] = area.low[e] - 1;
-            if candidate[e] >= area.low[e] {
-                continue 'candidates;
-            }
-            candidate[e] = area.high[e];
-        }
-        return None;
-    }
-    Some(candidate[d])
 }

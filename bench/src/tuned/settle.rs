@@ -1,8 +1,9 @@
-//! Settling as both tuned forms do it: document 000's sweep (Algorithms 10 and 12, and their mirror 13 and 14) for the
-//! ends of a row, and rows narrowed until nothing moves. What a form adds is how it finds a forbidden area.
+//! Settling as both tuned forms do it: sweeps for the ends of a row, and rows narrowed until nothing moves. What a form
+//! adds is how it finds a forbidden area.
 
 use crate::decode::{Area, Copies, Decoded, Point, Row, Rows};
 use crate::sheet::refusal;
+use crate::sweep;
 
 /// How forbidden areas are found for one row and shape at a time.
 pub trait Form {
@@ -130,49 +131,12 @@ impl<F: Form, N: FnMut()> Settling<'_, F, N> {
         (kept, found)
     }
 
-    /// An allowed point of the area with the least coordinate in dimension d.
+    /// An allowed point of the area with the least coordinate in dimension d, and one with the greatest.
     fn least(&mut self, d: usize, area: &Area) -> Option<Point> {
-        let k = self.sheet.k;
-        let mut candidate = area.low;
-        let mut jump = area.high.map(|x| x + 1);
-        'candidates: while let Some(forbidden) = self.form.forbidding(self.sheet, &self.rows, &candidate) {
-            for e in 0..4 {
-                jump[e] = jump[e].min(forbidden.high[e] + 1);
-            }
-            for j in (0..k).rev() {
-                let e = if j + d < k { j + d } else { j + d - k };
-                candidate[e] = jump[e];
-                jump[e] = area.high[e] + 1;
-                if candidate[e] <= area.high[e] {
-                    continue 'candidates;
-                }
-                candidate[e] = area.low[e];
-            }
-            return None;
-        }
-        Some(candidate)
+        sweep::least(self.sheet.k, d, area, |p| self.form.forbidding(self.sheet, &self.rows, p))
     }
 
-    /// An allowed point of the area with the greatest coordinate in dimension d.
     fn greatest(&mut self, d: usize, area: &Area) -> Option<Point> {
-        let k = self.sheet.k;
-        let mut candidate = area.high;
-        let mut jump = area.low.map(|x| x - 1);
-        'candidates: while let Some(forbidden) = self.form.forbidding(self.sheet, &self.rows, &candidate) {
-            for e in 0..4 {
-                jump[e] = jump[e].max(forbidden.low[e] - 1);
-            }
-            for j in (0..k).rev() {
-                let e = if j + d < k { j + d } else { j + d - k };
-                candidate[e] = jump[e];
-                jump[e] = area.low[e] - 1;
-                if candidate[e] >= area.low[e] {
-                    continue 'candidates;
-                }
-                candidate[e] = area.high[e];
-            }
-            return None;
-        }
-        Some(candidate)
+        sweep::greatest(self.sheet.k, d, area, |p| self.form.forbidding(self.sheet, &self.rows, p))
     }
 }

@@ -63,7 +63,7 @@
 
    There is no global state, no memory is allocated and no pointer is kept, so calls on different tables
    may run in different threads at once, also over one block. No function recurses; zk_settle, zk_narrow,
-   zk_least and zk_greatest used 51 to 71 KB of stack where it was measured (6,365 words of it are a list
+   zk_least and zk_greatest used 51 to 77 KB of stack where it was measured (6,365 words of it are a list
    of what can forbid a row), the others less than 1 KB; 128 KB leave room for changes.
 
    Time: every call ends, but there is no limit to it that helps in practice, and a call cannot be

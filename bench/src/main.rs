@@ -41,7 +41,7 @@ struct Effort {
 
 fn main() -> ExitCode {
     let words: Vec<String> = std::env::args().skip(1).collect();
-    let full = Effort { batches: 40, batch: Duration::from_micros(500), most: Duration::from_millis(100) };
+    let full = Effort { batches: 80, batch: Duration::from_micros(500), most: Duration::from_millis(100) };
     let quick = Effort { batches: 5, batch: Duration::from_micros(200), most: Duration::from_millis(20) };
     match words.iter().map(String::as_str).collect::<Vec<_>>()[..] {
         [] => table(&full, ""),

@@ -5,6 +5,7 @@ use mathlib.Core.Path.{_≡_, refl, sym, ap, _∙_, subst}
 use mathlib.Core.Bool.{Bool, true, false, not}
 use mathlib.Core.List.{List}
 use Prim.Native.Nat.{ℕ, _≤_, _<_}
+use native.Mathlib.Omega.{arith}
 use lib.ListN.{length}
 use lib.IntN.{ℤ}
 use lib.Signed.{_≤ℤ_}
@@ -13,14 +14,16 @@ use Rattle.integers.proofs.Booleans.{clash, and-true, true-and, not-true}
 use Rattle.sheet.specs.Layout.{Lent, axes}
 use Rattle.sheet.specs.Allowed.{forbidden}
 use Rattle.region.specs.declared.Area.{Area}
-use Rattle.region.specs.Area.{inArea}
+use Rattle.region.specs.Area.{inArea, Small}
 use Rattle.region.proofs.Areas.{area-at, area-by}
 use Rattle.sweep.specs.Point.{InBox, Near, turn, turned, turnedEnd}
 use Rattle.sweep.specs.Rotation.{rotation}
-use Rattle.sweep.specs.Moves.{Sweep, begun, jumpedPast, advance}
+use Rattle.sweep.specs.declared.Sweep.{Sweep}
+use Rattle.sweep.specs.Moves.{begun, jumpedPast, advance}
 use Rattle.sweep.specs.Theorem.{Step, Reached, start, onward, pointsAfter, SweepTheorem}
 use Rattle.sweep.proofs.Interface.{rotation-range, rotation-first, sweep-theorem, least-turned, candidate-near}
-use Rattle.sweep.proofs.Mirror.{TurnedBox, box-in, box-out, box-filled, turned-turned, reverses-turn}
+use Rattle.sweep.proofs.Mirror.{TurnedBox, near-start, near-end, box-in, box-out, box-filled, turned-turned, reverses-turn}
+use Rattle.sweep.proofs.Points.{near-of}
 use Rattle.bounds.specs.Search.{Ahead, freeIn, Sighted}
 
 -- ---- areas as boxes
@@ -36,94 +39,128 @@ unfolding turn
 turn-ahead true y z h = reverses-turn y z h
 turn-ahead false y z h = h
 
-module _ (lent : Lent) (t : List ℤ) (i s d : ℕ) (few : axes lent ≤ 4) (hd : d < axes lent) (flip : Bool) (a : Area)
-    (filled : inArea (axes lent) a (a .low) ≡ true)
-    (first end : List ℤ) (box : TurnedBox flip (a .low) (a .high) first end)
-    (first-long : axes lent ≤ length first) (end-long : axes lent ≤ length end) where
-  -- the sweep's points are turned: a point q of it stands for the point turned flip q
-  abbrev Bad : List ℤ → Type 0
-  Bad q = forbidden lent t i s (turned flip q) ≡ true
+-- a sweep for dimension d, all of whose jumps were over points that are forbidden to row i with shape s. Its points are turned: a point q of it
+-- stands for the point turned flip q
+abbrev pub Swept : Lent → List ℤ → ℕ → ℕ → ℕ → Bool → List ℤ → List ℤ → Sweep → Type 0
+Swept lent t i s d flip first end w =
+    Reached (axes lent) (rotation (axes lent) d) first end (λ q. forbidden lent t i s (turned flip q) ≡ true) w
 
-  abbrev pub Swept : Sweep → Type 0
-  Swept w = Reached (axes lent) (rotation (axes lent) d) first end Bad w
+-- how many points come after its candidate
+abbrev pub pointsLeft : Lent → ℕ → List ℤ → List ℤ → Sweep → ℕ
+pointsLeft lent d first end w = pointsAfter (rotation (axes lent) d) first end (axes lent) (w .candidate)
 
-  theorem : SweepTheorem (axes lent) (rotation (axes lent) d) first end Bad
-  theorem = sweep-theorem (rotation-range few hd first-long end-long (box-filled box (area-box (a .low) filled))) Bad
+-- what is swept for dimension d: the area a, which has a point, from first to end when it is turned
+pub record Task (lent : Lent) (d : ℕ) (flip : Bool) (a : Area) (first end : List ℤ) : Type 0 where
+  pub few : axes lent ≤ 4
+  pub below : d < axes lent
+  pub small : Small a
+  pub filled : inArea (axes lent) a (a .low) ≡ true
+  pub turns : TurnedBox flip (a .low) (a .high) first end
+  pub first-long : length first ≡ 4
+  pub end-long : length end ≡ 4
 
-  pub swept-start : {w : Sweep} → w ≡ begun first end → Swept w
-  swept-start e = start e
+-- the bounds of a small area are near
+pub near-low : {a : Area} → Small a → Near (a .low)
+near-low s = near-of (omega arith) (s .lows)
 
-  -- a point of the area, turned, is one of the sweep's range
-  in-range : (p : List ℤ) → inArea (axes lent) a p ≡ true → InBox (axes lent) first end (turned flip p)
-  in-range p e = box-in box (rw turned-turned (area-box p e))
+pub near-high : {a : Area} → Small a → Near (a .high)
+near-high s = near-of (omega arith) (s .highs)
 
-  not-bad : (p : List ℤ) → forbidden lent t i s p ≡ false → Bad (turned flip p) → ⊥
-  not-bad p e b = clash (ap (forbidden lent t i s) (sym (turned-turned flip p)) ∙ b) e
+-- a region that ends at last when it is turned
+pub near-last : (flip : Bool) (x : Area) {last : List ℤ} → Small x → last ≡ turnedEnd flip (x .low) (x .high) → Near last
+near-last flip x s e = near-end {low = x .low} {high = x .high} (record { start = refl; end = e }) (near-low s) (near-high s)
 
-  free-parts : (p : List ℤ) → freeIn lent t i s a p ≡ true → (inArea (axes lent) a p ≡ true) × (forbidden lent t i s p ≡ false)
-  unfolding freeIn
-  free-parts p e = let w = and-true e in (w .0, not-true (w .1))
+module _ {lent : Lent} {d : ℕ} {flip : Bool} {a : Area} {first end : List ℤ} (task : Task lent d flip a first end) where
+  pub task-start-near : Near first
+  task-start-near = near-start (task .turns) (near-low (task .small)) (near-high (task .small))
 
-  free-by : (p : List ℤ) → inArea (axes lent) a p ≡ true → forbidden lent t i s p ≡ false → freeIn lent t i s a p ≡ true
-  unfolding freeIn
-  free-by p e f = true-and e (ap not f)
+  pub task-end-near : Near end
+  task-end-near = near-end (task .turns) (near-low (task .small)) (near-high (task .small))
 
-  module _ {w : Sweep} (r : Swept w) where
-    pub swept-near : w .live ≡ true → Near first → Near end → Near (w .candidate)
-    swept-near l m n = candidate-near theorem r l m n
+  module _ (t : List ℤ) (i s : ℕ) where
+    abbrev Bad : List ℤ → Type 0
+    Bad q = forbidden lent t i s (turned flip q) ≡ true
 
-    -- p is the point that the candidate stands for
-    module _ {p : List ℤ} (point : p ≡ turned flip (w .candidate)) where
-      pub swept-in : w .live ≡ true → inArea (axes lent) a p ≡ true
-      swept-in l = subst (λ (q : List ℤ). inArea (axes lent) a q ≡ true) (sym point) (box-area _ (box-out box (theorem .inside r l)))
+    theorem : SweepTheorem (axes lent) (rotation (axes lent) d) first end Bad
+    theorem =
+        sweep-theorem
+        (rotation-range (task .few) (task .below) (omega (arith, task .few, task .first-long)) (omega (arith, task .few, task .end-long))
+        (box-filled (task .turns) (area-box (a .low) (task .filled))))
+        Bad
 
-      pub swept-found : w .live ≡ true → forbidden lent t i s p ≡ false → Sighted flip lent t i s a d (record { found = true; point = p })
-      swept-found l e =
-          record {
-            free = λ _. free-by p (swept-in l) e;
-            first =
-                λ _ q f.
-                let g = free-parts q f in
-                turn-ahead flip (word p d) (word q d)
-                (least-turned theorem r l (rotation-first few hd) flip point q (in-range q (g .0)) (not-bad q (g .1)));
-            none = λ u. absurd (clash refl u);
-          }
+    pub swept-start : {w : Sweep} → w ≡ begun first end → Swept lent t i s d flip first end w
+    swept-start e = start e
 
-      -- an area around p, all of whose points are forbidden, that ends at last when it is turned
-      module _ (live : w .live ≡ true) (x : Area) {last : List ℤ} (ends : last ≡ turnedEnd flip (x .low) (x .high))
-          (last-long : axes lent ≤ length last) (around : inArea (axes lent) x p ≡ true)
-          (only : (q : List ℤ) → inArea (axes lent) x q ≡ true → forbidden lent t i s q ≡ true)
-          {next : Sweep} (moves : next ≡ advance (rotation (axes lent) d) first end (axes lent) (jumpedPast w last)) where
-        turned-x : TurnedBox flip (x .low) (x .high) (turnedEnd flip (x .high) (x .low)) last
-        turned-x = record { start = refl; end = ends }
+    -- a point of the area, turned, is one of the sweep's range
+    in-range : (p : List ℤ) → inArea (axes lent) a p ≡ true → InBox (axes lent) first end (turned flip p)
+    in-range p e = box-in (task .turns) (rw turned-turned (area-box p e))
 
-        step : Step (axes lent) (rotation (axes lent) d) first end Bad w next
-        step =
+    not-bad : (p : List ℤ) → forbidden lent t i s p ≡ false → Bad (turned flip p) → ⊥
+    not-bad p e b = clash (ap (forbidden lent t i s) (sym (turned-turned flip p)) ∙ b) e
+
+    free-parts : (p : List ℤ) → freeIn lent t i s a p ≡ true → (inArea (axes lent) a p ≡ true) × (forbidden lent t i s p ≡ false)
+    unfolding freeIn
+    free-parts p e = let w = and-true e in (w .0, not-true (w .1))
+
+    free-by : (p : List ℤ) → inArea (axes lent) a p ≡ true → forbidden lent t i s p ≡ false → freeIn lent t i s a p ≡ true
+    unfolding freeIn
+    free-by p e f = true-and e (ap not f)
+
+    module _ {w : Sweep} (r : Swept lent t i s d flip first end w) where
+      pub swept-near : w .live ≡ true → Near (w .candidate)
+      swept-near l = candidate-near theorem r l task-start-near task-end-near
+
+      -- p is the point that the candidate stands for
+      module _ {p : List ℤ} (point : p ≡ turned flip (w .candidate)) (live : w .live ≡ true) where
+        pub swept-in : inArea (axes lent) a p ≡ true
+        swept-in =
+            subst (λ (q : List ℤ). inArea (axes lent) a q ≡ true) (sym point) (box-area _ (box-out (task .turns) (theorem .inside r live)))
+
+        pub swept-found : forbidden lent t i s p ≡ false → Sighted flip lent t i s a d (record { found = true; point = p })
+        swept-found e =
             record {
-              live = live;
-              first = turnedEnd flip (x .high) (x .low);
-              last = last;
-              long = last-long;
-              around = box-in turned-x (subst (InBox (axes lent) (x .low) (x .high)) point (area-box p around));
-              bad = λ q b c. only (turned flip q) (box-area (turned flip q) (box-out turned-x c));
-              next = moves;
+              free = λ _. free-by p swept-in e;
+              first =
+                  λ _ q f.
+                  let g = free-parts q f in
+                  turn-ahead flip (word p d) (word q d)
+                  (least-turned theorem r live (rotation-first (task .few) (task .below)) flip point q (in-range q (g .0)) (not-bad q (g .1)));
+              none = λ u. absurd (clash refl u);
             }
 
-        pub swept-on : Swept next
-        swept-on = onward r step
+        -- x is an area around p, all of whose points are forbidden, and ends at last when it is turned
+        module _ (x : Area) (around : inArea (axes lent) x p ≡ true)
+            (only : (q : List ℤ) → inArea (axes lent) x q ≡ true → forbidden lent t i s q ≡ true)
+            {last : List ℤ} (ends : last ≡ turnedEnd flip (x .low) (x .high)) (long : length last ≡ 4)
+            {next : Sweep} (moves : next ≡ advance (rotation (axes lent) d) first end (axes lent) (jumpedPast w last)) where
+          turned-x : TurnedBox flip (x .low) (x .high) (turnedEnd flip (x .high) (x .low)) last
+          turned-x = record { start = refl; end = ends }
 
-        pub swept-falls : next .live ≡ true
-            → pointsAfter (rotation (axes lent) d) first end (axes lent) (next .candidate)
-            < pointsAfter (rotation (axes lent) d) first end (axes lent) (w .candidate)
-        swept-falls l = theorem .falls r step l
+          step : Step (axes lent) (rotation (axes lent) d) first end Bad w next
+          step =
+              record {
+                live = live;
+                first = turnedEnd flip (x .high) (x .low);
+                last = last;
+                long = omega (arith, task .few, long);
+                around = box-in turned-x (subst (InBox (axes lent) (x .low) (x .high)) point (area-box p around));
+                bad = λ q b c. only (turned flip q) (box-area (turned flip q) (box-out turned-x c));
+                next = moves;
+              }
 
-    pub swept-none : w .live ≡ false → (q : List ℤ) → Sighted flip lent t i s a d (record { found = false; point = q })
-    swept-none l q =
-        record {
-          free = λ u. absurd (clash u refl);
-          first = λ u. absurd (clash u refl);
-          none =
-              λ _ p e.
-              let g = free-parts p e in
-              not-bad p (g .1) (theorem .exhausted r l (turned flip p) (in-range p (g .0)));
-        }
+          pub swept-on : Swept lent t i s d flip first end next
+          swept-on = onward r step
+
+          pub swept-falls : next .live ≡ true → pointsLeft lent d first end next < pointsLeft lent d first end w
+          swept-falls l = theorem .falls r step l
+
+      pub swept-none : w .live ≡ false → (q : List ℤ) → Sighted flip lent t i s a d (record { found = false; point = q })
+      swept-none l q =
+          record {
+            free = λ u. absurd (clash u refl);
+            first = λ u. absurd (clash u refl);
+            none =
+                λ _ p e.
+                let g = free-parts p e in
+                not-bad p (g .1) (theorem .exhausted r l (turned flip p) (in-range p (g .0)));
+          }

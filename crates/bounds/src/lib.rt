@@ -20,7 +20,7 @@ use nearby::Nearby;
 use region::Area;
 use region::COORDINATES;
 use sheet::Bound;
-use sweep::STATE;
+use sweep::Sweep;
 use words::Place;
 
 // A coordinate that was found, or none.
@@ -58,10 +58,10 @@ pub fn search(
     let high = area.high;
     let first = sweep::turned_end(high, low, flip);
     let end = sweep::turned_end(low, high, flip);
-    let mut state = [0i64; STATE];
-    sweep::begin(&mut state, first, end);
+    let mut w = Sweep::new(first, end);
     loop {
-        let p = sweep::turned_point(sweep::candidate(&state), flip);
+        let candidate = w.candidate;
+        let p = sweep::turned_point(candidate, flip);
         let x = nearby::region_at(block, table, list, nearby, i, s, p);
         let hit = x.hit;
         if !hit {
@@ -74,8 +74,10 @@ pub fn search(
         let from = bad.low;
         let to = bad.high;
         let last = sweep::turned_end(from, to, flip);
-        sweep::jump_past(&mut state, last);
-        if !sweep::advance(&mut state, k, d, &first, &end) {
+        w = w.jumped(last);
+        w = w.advanced(k, d, first, end);
+        let live = w.live;
+        if !live {
             return Spot {
                 found: false,
                 point: p,

@@ -12,7 +12,8 @@ use lib.Seq.{getD-set-other}
 use lib.Signed.{_≤ℤ_, _<ℤ_, leZ}
 use Rattle.integers.specs.Words.{word}
 use Rattle.integers.proofs.Ints.{ints, test-of-le}
-use Rattle.sweep.specs.Moves.{Sweep, placedAt, advance}
+use Rattle.sweep.specs.declared.Sweep.{Sweep}
+use Rattle.sweep.specs.Moves.{placedAt, advance}
 
 module _ (order : ℕ → ℕ) (low high : List ℤ) (s : Sweep) where
   pub adjust-none : (j : ℕ) → j ≡ 0 → advance order low high j s ≡ record { candidate = s .candidate; jump = s .jump; live = false }

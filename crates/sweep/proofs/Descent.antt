@@ -12,7 +12,8 @@ use lib.Signed.{_≤ℤ_, _<ℤ_, leZ, ≤ℤ-refl}
 use Rattle.integers.proofs.Booleans.{decide}
 use Rattle.integers.proofs.Ints.{ints}
 use Rattle.sweep.specs.Point.{InBox, next}
-use Rattle.sweep.specs.Moves.{Sweep, placedAt, advance}
+use Rattle.sweep.specs.declared.Sweep.{Sweep}
+use Rattle.sweep.specs.Moves.{placedAt, advance}
 use Rattle.sweep.specs.Theorem.{Order, Range, pointsAfter}
 use Rattle.sweep.proofs.Adjust.{adjust-none, adjust-found, adjust-again}
 use Rattle.sweep.proofs.Cover.{at, Anew, Covered, Cleared, cleared-none, cleared-again, covered-found}

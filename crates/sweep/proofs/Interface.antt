@@ -1,6 +1,6 @@
 -- What a caller of the sweep cites: `sweep-theorem` for the rotation of dimension d, the least coordinate by that dimension's
--- name, and that the candidate's words are near. The caller's loop has `Reached` (start, onward) of `sweepOf` its words as its invariant
--- and `pointsAfter` as its measure; for the greatest coordinate the boxes are turned (`TurnedBox`, proofs/Mirror.antt).
+-- name, and that the candidate's words are near. The caller's loop has `Reached` (start, onward) as its invariant and `pointsAfter`
+-- as its measure; for the greatest coordinate the boxes are turned (`TurnedBox`, proofs/Mirror.antt).
 -- Assumes nothing.
 use mathlib.Core.Path.{_≡_, subst}
 use mathlib.Core.Logic.{⊎-elim}
@@ -14,7 +14,7 @@ use lib.Signed.{_≤ℤ_}
 use Rattle.integers.specs.Words.{word}
 use Rattle.integers.proofs.Below.{below-or}
 use Rattle.integers.proofs.Machine.{within-by, within-between}
-use Rattle.sweep.specs.Moves.{Sweep}
+use Rattle.sweep.specs.declared.Sweep.{Sweep}
 use Rattle.sweep.specs.Point.{InBox, Near, turn, turned}
 use Rattle.sweep.specs.Rotation.{axes, rotation}
 use Rattle.sweep.specs.Theorem.{Range, Reached, SweepTheorem}

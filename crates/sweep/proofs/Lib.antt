@@ -1,7 +1,6 @@
 pub mod Points
 pub mod Mirror
 pub mod Rotations
-pub mod Cells
 pub mod Adjust
 pub mod Cover
 pub mod After

@@ -3,23 +3,33 @@
 use mathlib.Core.Path.{_≡_, refl, ap, _∙_}
 use mathlib.Core.Bool.{Bool, true, false, cond}
 use mathlib.Core.List.{List, [], _∷_, _++_, map, zipWith, append-nil}
-use Prim.Native.Nat.{ℕ, zero, suc, _+_, _≤_, _<_, min}
+use Prim.Native.Nat.{ℕ, zero, suc, _+_, _^_, _≤_, _<_, min}
 use native.Mathlib.Omega.{arith}
 use native.Mathlib.Numerals.{add-one}
 use native.Mathlib.Nat.{zero-add, not-suc-le-zero, le-of-suc-le-suc}
-use lib.IntN.{ℤ, pos}
+use lib.Dec.{T, ltb}
+use lib.IntN.{ℤ, pos, _+ℤ_}
 use lib.Signed.{_≤ℤ_, _<ℤ_, leZ}
 use lib.ListN.{length, set, take, drop, length-map, drop-of-length-le}
 use lib.Seq.{paste-suc, take-all, length-take-le, drop-cons, getD-at}
+use mir.Syntax.{w64}
+use mir.Val.{SFits, toZ, ofZ}
+use mir.Facts.{toZ-ofZ}
 use Rattle.integers.specs.Integer.{Within}
 use Rattle.integers.specs.Words.{word}
 use Rattle.integers.proofs.Ints.{ints, test-of-le}
-use Rattle.integers.proofs.Machine.{within-weaken}
+use Rattle.integers.proofs.Machine.{within-weaken, within-sum, within-fits}
 use Rattle.sweep.specs.Point.{reach, Near, next, nexts, lesser, lessers}
 
 -- a point of small words is near
 pub near-of : {n : ℕ} {p : List ℤ} → n ≤ reach → ((i : ℕ) → Within n (word p i)) → Near p
 near-of h w = record { near = λ i. within-weaken h (w i) }
+
+-- a near word and a small number more fit an i64
+pub near-fits : {z : ℤ} → Within reach z → (n : ℕ) → T (ltb (reach + n) (2 ^ 63)) → SFits w64 (toZ w64 (ofZ w64 z) +ℤ pos n)
+near-fits h n t =
+    let w : Within n (pos n) = omega ints in
+    rw (toZ-ofZ (within-fits h tt)) (within-fits (within-sum h w) t)
 
 -- ---- one past each word
 pub length-nexts : (p : List ℤ) → length (nexts p) ≡ length p

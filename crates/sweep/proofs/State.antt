@@ -14,7 +14,8 @@ use Rattle.integers.specs.Words.{word}
 use Rattle.integers.proofs.Below.{same-or}
 use Rattle.integers.proofs.Ints.{ints, lin, v, _⊕_}
 use Rattle.sweep.specs.Point.{InBox, next, nexts, lesser}
-use Rattle.sweep.specs.Moves.{Sweep, begun, jumpedPast, placedAt}
+use Rattle.sweep.specs.declared.Sweep.{Sweep}
+use Rattle.sweep.specs.Moves.{begun, jumpedPast, placedAt}
 use Rattle.sweep.specs.Theorem.{Order}
 use Rattle.sweep.proofs.Points.{length-nexts, word-nexts, length-lessers, word-lessers, below-lesser}
 use Rattle.sweep.proofs.Cover.{at, Same, Anew}

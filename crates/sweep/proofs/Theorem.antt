@@ -13,7 +13,8 @@ use Rattle.integers.specs.Words.{word}
 use Rattle.integers.proofs.Booleans.{clash, decide}
 use Rattle.integers.proofs.Ints.{ints}
 use Rattle.sweep.specs.Point.{InBox, next}
-use Rattle.sweep.specs.Moves.{Sweep, begun, jumpedPast}
+use Rattle.sweep.specs.declared.Sweep.{Sweep}
+use Rattle.sweep.specs.Moves.{begun, jumpedPast}
 use Rattle.sweep.specs.Theorem.{Range, Before, pointsAfter, Step, Reached, start, onward, SweepTheorem}
 use Rattle.sweep.proofs.Points.{lesser-below}
 use Rattle.sweep.proofs.Adjust.{advance-others}

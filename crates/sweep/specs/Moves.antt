@@ -1,28 +1,14 @@
 -- What the sweep's operations give, over the words of a point: document 000, Algorithms 10 and 12.
 -- Assumes nothing.
-use mathlib.Core.Bool.{Bool, true, false, cond}
+use mathlib.Core.Bool.{true, false, cond}
 use mathlib.Core.List.{List}
 use Prim.Native.Nat.{ℕ, zero, suc}
-use lib.ListN.{set, take, drop}
+use lib.ListN.{set}
 use lib.IntN.{ℤ}
 use lib.Signed.{leZ}
 use Rattle.integers.specs.Words.{word}
 use Rattle.sweep.specs.Point.{next, nexts, lessers}
-use Rattle.sweep.specs.Rotation.{axes}
-
--- a candidate point and a jump point; live is false once no candidate is left
-pub record Sweep : Type 0 where
-  pub candidate : List ℤ
-  pub jump : List ℤ
-  pub live : Bool
-
--- how many words a sweep has: STATE of src/lib.rt
-abbrev pub words : ℕ
-words = 8
-
--- the sweep of a run of that many words: the candidate's, and after them the jump point's
-abbrev pub sweepOf : List ℤ → Bool → Sweep
-sweepOf state live = record { candidate = take axes state; jump = drop axes state; live = live }
+use Rattle.sweep.specs.declared.Sweep.{Sweep}
 
 -- the start: the candidate is the lowest point, the jump point one past the highest
 abbrev pub begun : List ℤ → List ℤ → Sweep

@@ -11,7 +11,8 @@ use lib.Signed.{_≤ℤ_, _<ℤ_}
 use Rattle.integers.specs.Integer.{nat, width}
 use Rattle.integers.specs.Words.{word}
 use Rattle.sweep.specs.Point.{InBox}
-use Rattle.sweep.specs.Moves.{Sweep, begun, jumpedPast, advance}
+use Rattle.sweep.specs.declared.Sweep.{Sweep}
+use Rattle.sweep.specs.Moves.{begun, jumpedPast, advance}
 
 -- an order of the k dimensions: position m has dimension order m, and each dimension has one position
 pub record Order (k : ℕ) (order : ℕ → ℕ) : Type 0 where

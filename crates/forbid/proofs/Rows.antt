@@ -3,70 +3,41 @@
 use mathlib.Core.Path.{_≡_, refl, sym, ap, _∙_, subst}
 use mathlib.Core.Bool.{Bool, true, false, _&&_, and-false}
 use mathlib.Core.List.{List}
-use mathlib.Core.Logic.{⊎-elim}
-use Prim.Native.Nat.{ℕ, suc, _+_, _*_, _/_, _%_, _^_, _≤_, _<_}
-use native.Mathlib.Nat.{div-self, div-lt-iff-lt-mul}
+use Prim.Native.Nat.{ℕ, _+_, _≤_}
 use native.Mathlib.Omega.{arith}
 use lib.Count.{ones, trailingZeros}
 use lib.Dec.{eqb}
 use lib.IntN.{ℤ, pos}
-use lib.Pow.{pow-pos}
 use lib.Signed.{_≤ℤ_}
 use borrow.Author.Tests.{eqb-true, eq-eqb, ne-eqb}
 use Rattle.integers.specs.Integer.{nat}
 use Rattle.integers.specs.Below.{anyBelow}
-use Rattle.integers.specs.Bits.{bitAt}
 use Rattle.integers.proofs.Booleans.{fails, both-ways}
-use Rattle.integers.proofs.Below.{below-or, upto-some}
-use Rattle.integers.proofs.Bits.{bitAt-past, Only, only-one, one-power, one-lt, tz-below}
+use Rattle.integers.proofs.Below.{upto-some}
+use Rattle.integers.proofs.Bits.{one-lt}
 use Rattle.integers.proofs.Sets.{set-below, only-test, no-only}
 use Rattle.sheet.specs.Layout.{Lent, boxes, isOf, namesRow, rows, shapeSet, hasOnly}
 use Rattle.sheet.specs.Allowed.{pairForbids, shapesForbid, setForbids, rowForbids}
 use Rattle.sheet.proofs.Forbidden.{set-by, set-parts}
 use Rattle.forbid.specs.Region.{OnlyShape, rowsForbid}
 
--- ---- a number that is 1 without its trailing zeros has one bit, where they end; and the other way round
-shifted-only : (k : ℕ) {x : ℕ} → x / 2 ^ trailingZeros k x ≡ 1 → Only x (trailingZeros k x)
-unfolding bitAt
-shifted-only k {x} q = record {
-  here = ap (λ (m : ℕ). m % 2) q;
-  sole = λ d b. ⊎-elim (λ l. absurd (omega (arith, sym b ∙ tz-below k x d l)))
-      (λ l. ⊎-elim (λ u. absurd (omega (arith, sym b ∙ above d u))) (λ u. omega arith) (below-or (trailingZeros k x) d))
-      (below-or d (trailingZeros k x));
-}
-  where
-    small : x < 2 ^ suc (trailingZeros k x)
-    small = let w : x < 2 * 2 ^ trailingZeros k x = div-lt-iff-lt-mul (pow-pos (trailingZeros k x)) .0 (omega arith) in omega arith
-
-    above : (d : ℕ) → trailingZeros k x < d → bitAt x d ≡ 0
-    above d u = bitAt-past small u
-
-one-shifted : (k : ℕ) {x : ℕ} → x < 2 ^ k → ones x ≡ 1 → x / 2 ^ trailingZeros k x ≡ 1
-one-shifted k {x} h o =
-    ap (λ (m : ℕ). m / 2 ^ trailingZeros k x) (one-power k h o) ∙ div-self (pow-pos (trailingZeros k x))
-
 module _ (lent : Lent) (t : List ℤ) where
   -- ---- the one shape of a set; n is the set as the code holds it
-  module _ (j : ℕ) {n : ℕ} (e : n ≡ nat (shapeSet lent t j)) (h : shapeSet lent t j ≤ℤ pos 4294967295) where
-    short : n < 2 ^ 32
-    short = rw e (set-below 32 h)
-
-    pub single-shape : n / 2 ^ trailingZeros 32 n ≡ 1 → OnlyShape lent t j (trailingZeros 32 n + 1)
+  module _ (j : ℕ) {n : ℕ} (e : n ≡ nat (shapeSet lent t j)) where
+    pub single-shape : shapeSet lent t j ≤ℤ pos 4294967295 → ones n ≡ 1 → OnlyShape lent t j (trailingZeros 32 n + 1)
     unfolding hasOnly
-    single-shape q =
-        let o : ones (nat (shapeSet lent t j)) ≡ 1 = sym (ap ones e) ∙ only-one (shifted-only 32 q) in
+    single-shape h o =
+        let o' : ones (nat (shapeSet lent t j)) ≡ 1 = sym (ap ones e) ∙ o in
         record {
-          is = λ s l. only-test 32 (shapeSet lent t j) (set-below 32 h) o s ∙ ap (λ (m : ℕ). eqb (trailingZeros 32 m + 1) s) (sym e);
-          upto = rw e (omega (arith, one-lt 32 (set-below 32 h) o));
+          is = λ s l. only-test 32 (shapeSet lent t j) (set-below 32 h) o' s ∙ ap (λ (m : ℕ). eqb (trailingZeros 32 m + 1) s) (sym e);
+          upto = rw e (omega (arith, one-lt 32 (set-below 32 h) o'));
         }
 
-    -- where it is 0, or is not 1 without its trailing zeros
-    pub several-shapes : (trailingZeros 32 n < 32 → n / 2 ^ trailingZeros 32 n ≡ 1 → ⊥) → OnlyShape lent t j 0
+    pub several-shapes : (ones n ≡ 1 → ⊥) → OnlyShape lent t j 0
     unfolding hasOnly
     several-shapes f =
         record {
-          is = λ s l. no-only (shapeSet lent t j) (λ q. let o = ap ones e ∙ q in f (one-lt 32 short o) (one-shifted 32 short o)) s
-              ∙ sym (ne-eqb 0 s (λ q. omega arith));
+          is = λ s l. no-only (shapeSet lent t j) (λ q. f (ap ones e ∙ q)) s ∙ sym (ne-eqb 0 s (λ q. omega arith));
           upto = omega arith;
         }
 

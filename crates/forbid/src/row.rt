@@ -74,11 +74,8 @@ pub fn only_shape(block: &[i64], table: &[i64], j: Place) -> usize
     ensures { λ x. ⌜ OnlyShape (lentOf (now (block .entry))) (now (table .entry)) (j .number) x ⌝ }
 {
     let set = words::shapes_of(block, table, j);
-    let t = u32::trailing_zeros(set);
-    if t < 32 {
-        if set >> t == 1 {
-            return t as usize + 1;
-        }
+    if u32::count_ones(set) == 1 {
+        return u32::trailing_zeros(set) as usize + 1;
     }
     0
 }

@@ -1,8 +1,8 @@
--- `row::only_shape` meets its contract: a set that is 1 without its trailing zeros holds one number, where they end. Assumes nothing.
+-- `row::only_shape` meets its contract: a set with a single one holds one number, where its trailing zeros end. Assumes nothing.
 use native.Mathlib.Omega.{arith}
+use lib.Count.{trailing-le}
 use Rattle.integers.proofs.Ints.{ints}
 use Rattle.forbid.proofs.Rows.{single-shape, several-shapes}
-use borrow.Author.Needs.{needs}
 use Rattle.forbid.proofs.row.only_shape.Statement.{statement}
 use Rattle.forbid.proofs.row.only_shape.Tie as tie
 
@@ -12,37 +12,20 @@ shapes-of-requires c κs =
     let from = c .pre .1 .sets-from _ (j .from) (j .upto) in
     (c .pre .0 .head, c .pre .1 .whole, j, record { from = omega ints; upto = c .pre .1 .sets-upto _ (j .from) (j .upto) })
 
-shr-if2 : tie.Need-shr-if2
-shr-if2 c = search needs
-
 cast-result : tie.Need-cast-result
-cast-result c = search needs
+cast-result c = omega (arith, trailing-le 32 (c .before .shapes-of .result))
 
 add-result : tie.Need-add-result
-add-result c = search needs
+add-result c = omega (arith, trailing-le 32 (c .before .shapes-of .result))
 
 returns : tie.Need-returns
 returns c =
-    let o = c .before .before in
-    let s = o .before in
+    let s = c .before .before in
     let j = s .pre .2 in
-    single-shape _ _ _ (o .shapes-of .ensures) (s .pre .1 .sets-upto _ (j .from) (j .upto)) (c .if2 .taken)
+    single-shape _ _ _ (c .before .shapes-of .ensures) (s .pre .1 .sets-upto _ (j .from) (j .upto)) (c .if1 .taken)
 
 returns-2 : tie.Need-returns-2
-returns-2 c =
-    let o = c .before .before in
-    let s = o .before in
-    let j = s .pre .2 in
-    several-shapes _ _ _ (o .shapes-of .ensures) (s .pre .1 .sets-upto _ (j .from) (j .upto)) (λ h. c .if2 .left)
-
-returns-3 : tie.Need-returns-3
-returns-3 c =
-    let o = c .before in
-    let s = o .before in
-    let j = s .pre .2 in
-    several-shapes _ _ _ (o .shapes-of .ensures) (s .pre .1 .sets-upto _ (j .from) (j .upto)) (λ h. absurd (omega (arith, c .if1 .left)))
+returns-2 c = several-shapes _ _ _ (c .before .shapes-of .ensures) (c .if1 .left)
 
 pub only-shape-spec : {M : Type 1} → statement M
-only-shape-spec =
-    tie.close
-    (tie.spec shapes-of-requires shr-if2 cast-result add-result returns returns-2 returns-3)
+only-shape-spec = tie.close (tie.spec shapes-of-requires cast-result add-result returns returns-2)

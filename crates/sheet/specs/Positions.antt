@@ -1,16 +1,19 @@
--- Document 01's marked positions, in its order, and two more: one that a single pass over the rows gets wrong, and one that
--- 'a row with several shapes forbids too' gets wrong; and the theorem that every case passes. Assumes nothing.
-use mathlib.Core.Bool.{Bool, true, false, not, _&&_}
+-- Document 01's marked positions, in its order, then the sheet of its text program and two more: one that a single pass over the rows
+-- gets wrong, and one that 'a row with several shapes forbids too' gets wrong; and the theorem that every case passes. Assumes nothing.
+use mathlib.Core.Bool.{Bool, true, false, not, cond, _&&_}
 use mathlib.Core.List.{List, [], _∷_, _++_, map}
 use mathlib.Core.Option.{Option, none, some}
-use Prim.Native.Nat.{ℕ, suc}
+use Prim.Native.Nat.{ℕ, zero, suc, _^_}
 use lib.Dec.{T, eqb}
-use lib.IntN.{ℤ, pos}
-use Rattle.integers.specs.Integer.{minus, eqZ}
-use Rattle.integers.specs.Words.{sameWords}
+use lib.ListN.{take, drop}
+use lib.IntN.{ℤ, pos, _+ℤ_}
+use Rattle.integers.specs.Integer.{minus, eqZ, within, width}
+use Rattle.integers.specs.Below.{allBelow, sumBelow}
+use Rattle.integers.specs.Bits.{bit}
+use Rattle.integers.specs.Words.{word, sameWords}
 use Rattle.sheet.specs.Computing.{computing}
-use Rattle.sheet.specs.Layout.{Lent, lentOf}
-use Rattle.sheet.specs.Allowed.{forbidFrom, forbidTo}
+use Rattle.sheet.specs.Layout.{Lent, lentOf, rowLen, rows}
+use Rattle.sheet.specs.Allowed.{forbidFrom, forbidTo, forbidden}
 use Rattle.sheet.specs.Placement.{good, catalogueGood}
 use Rattle.sheet.specs.Bounds.{leastOf}
 use Rattle.sheet.specs.Narrow.{narrowOf}
@@ -22,11 +25,13 @@ use Rattle.sheet.specs.Refusal.{refusal, refusalPlacement}
 pub data Asked : Type 0 where
   -- the least coordinate of row i with shape s in dimension 0
   hasLeast : (i s : ℕ) → Option ℤ → Asked
-  -- what box c of row j forbids to row i with box b in dimension 0 under rule 0: from .. to ..
-  forbids : (i b j c : ℕ) → ℤ → ℤ → Asked
+  -- what box c of row j forbids to row i with shape s, whose box is b, in dimension 0 under rule 0: from .. to ..
+  forbids : (i s b j c : ℕ) → ℤ → ℤ → Asked
   -- narrowing row i
   narrows : (i : ℕ) → Option (List ℤ) → Asked
   settles : Option (List ℤ) → Asked
+  -- how many placements lie inside the table, and how many of them are good
+  hasLayouts : (placements layouts : ℕ) → Asked
   isGood : Bool → Asked
 
 pub record Case : Type 0 where
@@ -50,12 +55,38 @@ unfoldable pub sameTruth : Bool → Bool → Bool
 sameTruth true b = b
 sameTruth false b = not b
 
+-- for every z from −10 to 10: z is forbidden to row i with shape s exactly when it lies from .. to ..
+unfoldable pub forbidsOnly : Lent → List ℤ → ℕ → ℕ → ℤ → ℤ → Bool
+forbidsOnly lent table i s from to =
+    allBelow 21 (λ m. let z = minus 10 +ℤ pos m in sameTruth (forbidden lent table i s (z ∷ [])) (within from to z))
+
+-- how many ways there are to fix every range of ws to one number, as f counts each
+unfoldable pub countRanges : List ℤ → (List ℤ → ℕ) → ℕ
+countRanges [] f = f []
+countRanges (a ∷ []) f = 0
+countRanges (a ∷ (b ∷ ws)) f = sumBelow (width a b) (λ c. let z = a +ℤ pos c in countRanges ws (λ fixed. f (z ∷ z ∷ fixed)))
+
+-- to fix n rows of len words each, every one to a shape of its set and to one number in each range
+unfoldable pub countRows : ℕ → ℕ → List ℤ → (List ℤ → ℕ) → ℕ
+countRows len zero ws f = f []
+countRows len (suc n) ws f =
+    sumBelow 32 (λ m. elim (bit (word ws 0) m) [
+      | true ↦ countRanges (drop 1 (take len ws)) (λ ranges. countRows len n (drop len ws) (λ rest. f (pos (2 ^ m) ∷ (ranges ++ rest))))
+      | false ↦ 0
+    ])
+
+-- how many of the placements inside the table pass a test
+unfoldable pub placementsBy : Lent → List ℤ → (List ℤ → Bool) → ℕ
+placementsBy lent table test = countRows (rowLen lent) (rows lent table) table (λ p. cond (test p) 1 0)
+
 unfoldable pub answered : Lent → List ℤ → Asked → Bool
 answered lent table (hasLeast i s z) = sameNumber (leastOf lent table i s 0) z
-answered lent table (forbids i b j c from to) =
-    eqZ (forbidFrom lent table 0 i b j c 0) from && eqZ (forbidTo lent table 0 i b j c 0) to
+answered lent table (forbids i s b j c from to) =
+    eqZ (forbidFrom lent table 0 i b j c 0) from && eqZ (forbidTo lent table 0 i b j c 0) to && forbidsOnly lent table i s from to
 answered lent table (narrows i t) = sameTable (narrowOf lent table i) t
 answered lent table (settles t) = sameTable (settleOf lent table) t
+answered lent table (hasLayouts placements layouts) =
+    eqb (placementsBy lent table (λ p. eqb (refusalPlacement lent p) 0)) placements && eqb (placementsBy lent table (good lent)) layouts
 answered lent table (isGood b) =
     eqb (refusalPlacement lent table) 0 && sameTruth (good lent table) b && sameTruth (catalogueGood lent table) b
 
@@ -100,6 +131,10 @@ ab = line (3 ∷ 2 ∷ []) 2 3
 unfoldable pub abRows : ℤ → ℤ → ℤ → ℤ → List ℤ
 abRows a a' b b' = row 1 a a' ++ row 2 b b'
 
+-- three rows in 0..3
+unfoldable pub threeRows : List ℤ
+threeRows = row 1 (pos 0) (pos 3) ++ row 1 (pos 0) (pos 3) ++ row 1 (pos 0) (pos 3)
+
 -- the sheet of "The text program"
 unfoldable pub textSheet : List ℤ
 textSheet = words (2 ∷ 1 ∷ 2 ∷ 1 ∷ 0 ∷ 0 ∷ 2 ∷ 2 ∷ 1 ∷ 3 ∷ 3 ∷ 0 ∷ 0 ∷ 0 ∷ 0 ∷ 2 ∷ 3 ∷ 3 ∷ 0 ∷ 4 ∷ 0 ∷ 2 ∷ [])
@@ -132,19 +167,21 @@ positions =
     case ab (abRows (pos 0) (pos 0) (minus 2) (pos 5)) (hasLeast 2 2 (some (minus 2)))
     ∷ case ab (abRows (pos 0) (pos 0) (minus 1) (pos 5)) (hasLeast 2 2 (some (pos 3)))
     ∷ case ab (abRows (pos 0) (pos 0) (minus 1) (pos 2)) (hasLeast 2 2 none)
-    -- A in 0..1 forbids B 0 to 2; in 0..3 only 2; in 0..4 nothing: the first end exceeds the last
-    ∷ case ab (abRows (pos 0) (pos 1) (minus 10) (pos 10)) (forbids 2 1 1 0 (pos 0) (pos 2))
-    ∷ case ab (abRows (pos 0) (pos 3) (minus 10) (pos 10)) (forbids 2 1 1 0 (pos 2) (pos 2))
-    ∷ case ab (abRows (pos 0) (pos 4) (minus 10) (pos 10)) (forbids 2 1 1 0 (pos 3) (pos 2))
+    -- A in 0..1 forbids B 0 to 2; in 0..3 only 2; in 0..4 nothing: the first end exceeds the last, and no z is forbidden
+    ∷ case ab (abRows (pos 0) (pos 1) (minus 10) (pos 10)) (forbids 2 2 1 1 0 (pos 0) (pos 2))
+    ∷ case ab (abRows (pos 0) (pos 3) (minus 10) (pos 10)) (forbids 2 2 1 1 0 (pos 2) (pos 2))
+    ∷ case ab (abRows (pos 0) (pos 4) (minus 10) (pos 10)) (forbids 2 2 1 1 0 (pos 3) (pos 2))
     -- A at 0, B in −1..2 with sizes 2 (shape 1) or 1 (shape 2): only shape 2 remains, at −1
     ∷ case (line (2 ∷ 1 ∷ 3 ∷ []) 3 3) (row 4 (pos 0) (pos 0) ++ row 3 (minus 1) (pos 2))
     (narrows 2 (some (row 4 (pos 0) (pos 0) ++ row 2 (minus 1) (minus 1))))
     -- two rows of size 2 in a room 0 to 3, range 0..1 each: no layout; room 0 to 4, range 0..2 each: settled as given
     ∷ case (room 3 3) (row 1 (pos 0) (pos 1) ++ row 1 (pos 0) (pos 1)) (settles none)
     ∷ case (room 3 4) (row 1 (pos 0) (pos 2) ++ row 1 (pos 0) (pos 2)) (settles (some (row 1 (pos 0) (pos 2) ++ row 1 (pos 0) (pos 2))))
-    -- three rows of size 2 in a room 0 to 5, range 0..3: settled as given, though no layout exists
-    ∷ case (room 7 5) (row 1 (pos 0) (pos 3) ++ row 1 (pos 0) (pos 3) ++ row 1 (pos 0) (pos 3))
-    (settles (some (row 1 (pos 0) (pos 3) ++ row 1 (pos 0) (pos 3) ++ row 1 (pos 0) (pos 3))))
+    -- three rows of size 2 in a room 0 to 5, range 0..3: settled as given, though no layout exists: none of the 64 placements is good.
+    -- Of the 9 placements of the two rows in the room 0 to 4 there are two
+    ∷ case (room 7 5) threeRows (settles (some threeRows))
+    ∷ case (room 7 5) threeRows (hasLayouts 64 0)
+    ∷ case (room 3 4) (row 1 (pos 0) (pos 2) ++ row 1 (pos 0) (pos 2)) (hasLayouts 9 2)
     -- the catalogue's example
     ∷ case catalogue (placed 4 1) (isGood true)
     ∷ case catalogue (placed 3 1) (isGood false)
@@ -160,5 +197,5 @@ positions =
 
 -- THE MARKED POSITIONS: the checker computes that every case passes
 pub positions-pass : T (allPass positions)
-unfolding computing sameTable sameNumber sameTruth answered passes allPass words row row2 boxesFrom line room ab abRows textSheet catalogue placed positions
+unfolding computing sameTable sameNumber sameTruth forbidsOnly countRanges countRows placementsBy answered passes allPass words row row2 boxesFrom line room ab abRows threeRows textSheet catalogue placed positions
 positions-pass = tt

@@ -88,6 +88,11 @@ extern "C" {
 /* 0: the sheet is accepted. Never -1. Refusals 2 to 8. */
 int64_t zk_refusal(const int64_t *block, size_t block_len, const int64_t *table, size_t table_len);
 
+/* 0: the sheet is accepted and has the row. Never -1. Refusals 2 to 9. Where zk_row_span refuses, this is its
+   ground. */
+int64_t zk_row_refusal(const int64_t *block, size_t block_len, const int64_t *table, size_t table_len,
+                       int64_t row);
+
 /* 0: the row is allowed at the point (p0, p1, p2, p3) with the shape. -1: it is not, also where the point
    lies outside the row's ranges. Coordinates from p_k on are ignored. Refusals 2 to 10. */
 int64_t zk_point_allowed(const int64_t *block, size_t block_len, const int64_t *table, size_t table_len,
@@ -122,7 +127,7 @@ int64_t zk_narrow(const int64_t *block, size_t block_len, int64_t *table, size_t
 int64_t zk_settle(const int64_t *block, size_t block_len, int64_t *table, size_t table_len);
 
 /* Where the row stands in its table: table[start] to table[start + length - 1], its shape set first. When
-   refused both are 0: zk_refusal gives 2 to 8, and where it gives 0 the refusal was 9. */
+   refused both are 0, and zk_row_refusal gives the refusal. */
 struct zk_span {
     int64_t start;
     int64_t length;

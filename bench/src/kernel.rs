@@ -25,6 +25,7 @@ mod c {
 
     unsafe extern "C" {
         pub fn zk_refusal(block: Words, b: usize, table: Words, t: usize) -> i64;
+        pub fn zk_row_refusal(block: Words, b: usize, table: Words, t: usize, row: i64) -> i64;
         pub fn zk_point_allowed(
             block: Words,
             b: usize,
@@ -51,6 +52,10 @@ mod c {
 
 pub fn refusal(block: &[i64], table: &[i64]) -> i64 {
     unsafe { c::zk_refusal(block.as_ptr(), block.len(), table.as_ptr(), table.len()) }
+}
+
+pub fn row_refusal(block: &[i64], table: &[i64], row: i64) -> i64 {
+    unsafe { c::zk_row_refusal(block.as_ptr(), block.len(), table.as_ptr(), table.len(), row) }
 }
 
 pub fn point_allowed(block: &[i64], table: &[i64], row: i64, shape: i64, p: &[i64; 4]) -> i64 {

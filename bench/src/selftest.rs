@@ -199,6 +199,7 @@ fn kernel_calls(sheet: &Sheet, random: &mut Random, counts: &mut Counts) {
     };
     counts.compare("zk_narrow", sheet, (found, &narrowed), (finding, &expected));
 
+    counts.compare("zk_row_refusal", sheet, kernel::row_refusal(block, table, row), row_refused);
     let span = kernel::row_span(block, table, row);
     let length = 1 + 2 * k;
     if row_refused != 0 {
@@ -214,5 +215,5 @@ fn kernel_calls(sheet: &Sheet, random: &mut Random, counts: &mut Counts) {
         true => -1,
     };
     counts.compare("zk_check_placement", sheet, kernel::check_placement(block, &placed), expected);
-    counts.calls += 6;
+    counts.calls += 7;
 }

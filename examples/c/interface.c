@@ -55,6 +55,7 @@ static void refused(const char *what, int64_t number, const int64_t *block, size
     memcpy(b, block, block_len * sizeof *b);
     memcpy(t, table, table_len * sizeof *t);
     same(what, number, zk_refusal(b, block_len, t, table_len));
+    same(what, number, zk_row_refusal(b, block_len, t, table_len, 1));
     same(what, number, zk_point_allowed(b, block_len, t, table_len, 1, 1, 0, 0, 0, 0));
     same(what, number, zk_check_placement(b, block_len, t, table_len));
     same_bound(what, number, 0, zk_least(b, block_len, t, table_len, 1, 1, 0));
@@ -133,6 +134,11 @@ static void bounds(void)
     same_span("row 1", 0, 3, zk_row_span(good, BLOCK, wide, TABLE, 1));
     same_span("row 2", 3, 3, zk_row_span(good, BLOCK, wide, TABLE, 2));
     same_span("row 3", 0, 0, zk_row_span(good, BLOCK, wide, TABLE, 3));
+    same("row 1 is there", 0, zk_row_refusal(good, BLOCK, wide, TABLE, 1));
+    same("row 2 is there", 0, zk_row_refusal(good, BLOCK, wide, TABLE, 2));
+    same("row 3 is not", 9, zk_row_refusal(good, BLOCK, wide, TABLE, 3));
+    same("row 0 is not", 9, zk_row_refusal(good, BLOCK, wide, TABLE, 0));
+    same("no row -1", 9, zk_row_refusal(good, BLOCK, wide, TABLE, -1));
 }
 
 static void narrows(const char *what, const int64_t *table, int64_t row, int64_t finding, const int64_t *left)

@@ -110,6 +110,13 @@ pub extern "C" fn zk_refusal(block: &[i64], table: &[i64]) -> i64
 }
 
 #[no_mangle]
+pub extern "C" fn zk_row_refusal(block: &[i64], table: &[i64], row: i64) -> i64
+    ensures { λ r. ⌜ r ≡ pos (refusalRow (lentOf (now (block .entry))) (now (table .entry)) row) ⌝ }
+{
+    accept::row_refusal(block, table, row)
+}
+
+#[no_mangle]
 pub extern "C" fn zk_point_allowed(
     block: &[i64],
     table: &[i64],

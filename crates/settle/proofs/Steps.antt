@@ -21,9 +21,9 @@ use Rattle.sheet.proofs.Demand3.{Good, narrow}
 use Rattle.narrow.specs.Steps.{stepAnswer}
 use Rattle.narrow.specs.declared.Step.{Step}
 use Rattle.narrow.specs.declared.Step.the-variants.{NoPlace, Still, Moved}
-use Rattle.settle.specs.Todo.{todo, Touched, Spared, OnTheWay, toGo}
+use Rattle.settle.specs.Todo.{todo, Touched, Spared}
 use Rattle.settle.proofs.Turns.{todo-no, todo-other}
-use Rattle.settle.proofs.Worked.{worked-none, worked-still, worked-good, worked-moved, worked-falls, less-rows, less-extent}
+use Rattle.settle.proofs.Worked.{OnTheWay, toGo, worked-none, worked-still, worked-good, worked-moved, worked-falls, less-rows, less-extent}
 
 -- ---- the answer
 answer-none : (t : List ℤ) (o : Option (List ℤ)) → NoPlace ≡ stepAnswer t o → o ≡ none

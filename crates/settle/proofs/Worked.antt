@@ -1,25 +1,36 @@
--- The laws of the settling loop: where it starts (`worked-start`), what one narrowing leaves (`worked-none`, `worked-still`, `worked-moved`), and
--- where no row is left to narrow (`worked-end`). Assumes nothing.
+-- What the settling loop keeps (`OnTheWay`) and what falls with each turn (`toGo`); and its laws: where it starts (`worked-start`), what one
+-- narrowing leaves (`worked-none`, `worked-still`, `worked-moved`), and where no row is left to narrow (`worked-end`). Assumes nothing.
 use mathlib.Core.Path.{_≡_, refl, sym, _∙_, subst}
 use mathlib.Core.Logic.{⊎-elim}
 use mathlib.Core.Bool.{Bool, true, false, cond}
 use mathlib.Core.List.{List}
 use mathlib.Core.Option.{none, some}
-use Prim.Native.Nat.{ℕ, zero, suc, _+_, _≤_, _<_}
+use Prim.Native.Nat.{ℕ, zero, suc, _+_, _*_, _≤_, _<_}
 use native.Mathlib.Nat.{mul-le-mul-right}
 use native.Mathlib.Omega.{arith}
 use lib.IntN.{ℤ}
 use Rattle.integers.specs.Below.{sumBelow}
 use Rattle.integers.proofs.Below.{sum-lt, same-or}
+use Rattle.fixpoint.specs.Run.{Way}
 use Rattle.fixpoint.proofs.Between.{way-start, way-step}
 use Rattle.fixpoint.proofs.Settle.{settles-none}
-use Rattle.fixpoint.proofs.Worklist.{marks-all, marks-still, marks-again, marks-settled}
+use Rattle.fixpoint.proofs.Worklist.{Marks, marks-all, marks-still, marks-again, marks-settled}
 use Rattle.sheet.specs.Layout.{Lent, axes, rows}
-use Rattle.sheet.specs.Settle.{extent, settleOf}
+use Rattle.sheet.specs.Settle.{Settled, Inside, extent, settleOf}
 use Rattle.sheet.proofs.Accepted.{rows-same}
 use Rattle.sheet.proofs.Local.{Clear, narrow-again, narrow-clear}
 use Rattle.sheet.proofs.Demand3.{Good, narrow, laws}
-use Rattle.settle.specs.Todo.{todo, OnTheWay, toGo}
+use Rattle.settle.specs.Todo.{todo}
+
+module _ (lent : Lent) where
+  -- v comes from t by narrowing rows, and narrowing a row that is not to be narrowed moves nothing
+  pub record OnTheWay (t v due : List ℤ) : Type 0 where
+    pub way : Way (Inside lent) (Settled lent) (Good lent t) t v
+    pub marks : Marks (narrow lent) (rows lent t) (todo due) v
+
+  -- it falls with each narrowing: the extent with one that moves a word, the number of rows to narrow with any other
+  unfoldable pub toGo : ℕ → List ℤ → List ℤ → ℕ
+  toGo n v due = extent lent v * 33 + sumBelow n (λ m. cond (todo due m) 1 0)
 
 module _ (lent : Lent) (dims : 0 < axes lent) (t : List ℤ) where
   abbrev n : ℕ

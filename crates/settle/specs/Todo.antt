@@ -1,22 +1,18 @@
 -- Settling by a run of words that says which rows are to be narrowed: a word for each row, 1 while the row may still move.
 -- Assumes nothing.
 use mathlib.Core.Path.{_≡_}
-use mathlib.Core.Bool.{Bool, true, false, cond}
+use mathlib.Core.Bool.{Bool, true, false}
 use mathlib.Core.List.{List}
 use mathlib.Core.Option.{none, some}
-use Prim.Native.Nat.{ℕ, suc, _+_, _*_, _≤_, _<_}
+use Prim.Native.Nat.{ℕ, suc, _≤_, _<_}
 use lib.IntN.{ℤ, pos}
 use Rattle.integers.specs.Integer.{eqZ}
-use Rattle.integers.specs.Below.{sumBelow}
 use Rattle.integers.specs.Words.{word}
-use Rattle.fixpoint.specs.Run.{Way}
-use Rattle.fixpoint.proofs.Worklist.{Marks}
 use Rattle.sheet.specs.Layout.{Lent, isNonOverlap, namesRow, rows}
-use Rattle.sheet.specs.Settle.{Settled, Inside, extent, settleOf}
+use Rattle.sheet.specs.Settle.{settleOf}
 use Rattle.sheet.specs.Answer.{settleAnswer, tableAfter}
 use Rattle.sheet.specs.Accepted.{Block, Table}
 use Rattle.sheet.specs.declared.Settling.{Settling}
-use Rattle.sheet.proofs.Demand3.{Good, narrow}
 use Rattle.words.specs.Places.{RowPlace}
 use Rattle.words.specs.declared.Place.{Place}
 use Rattle.nearby.specs.Listing.{Ready, Unreached}
@@ -46,15 +42,6 @@ module _ (lent : Lent) where
   -- if rule r keeps rows i and m + 1 apart, row i forbids row m + 1 no point of its ranges by it
   abbrev pub Spared : List ℤ → ℕ → ℕ → ℕ → Type 0
   Spared t i r m = isNonOverlap lent r ≡ true → namesRow lent r i ≡ true → namesRow lent r (suc m) ≡ true → Unreached lent t r i (suc m)
-
-  -- v comes from t by narrowing rows, and narrowing a row that is not to be narrowed moves nothing
-  pub record OnTheWay (t v due : List ℤ) : Type 0 where
-    pub way : Way (Inside lent) (Settled lent) (Good lent t) t v
-    pub marks : Marks (narrow lent) (rows lent t) (todo due) v
-
-  -- it falls with each narrowing: the extent with one that moves a word, the number of rows to narrow with any other
-  unfoldable pub toGo : ℕ → List ℤ → List ℤ → ℕ
-  toGo n v due = extent lent v * 33 + sumBelow n (λ m. cond (todo due m) 1 0)
 
   -- what the loop answers on t, and leaves: true, and the table that settling finds; false where it finds none
   pub record FoundBy (t : List ℤ) (r : Bool) (v : List ℤ) : Type 0 where

@@ -1,3 +1,2 @@
 pub mod Long
 pub mod Readings
-pub mod Printed

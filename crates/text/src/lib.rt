@@ -1,10 +1,7 @@
-// The text program's two ends (document 01, "The text program"): reading a text, which makes checks 1 to 8, and writing the answer.
+// Reading a text (document 01, "The text program"), which makes checks 1 to 8.
 ghost use mathlib.Core.Path.{_≡_};
-ghost use lib.ListN.{take};
-ghost use Rattle.stores.specs.Put.{Put};
 ghost use Rattle.sheet.specs.Text.{reading};
-ghost use Rattle.text.specs.Answers.{readingOf, refusedBy, printedOf};
-use sheet::Settling;
+ghost use Rattle.text.specs.Answers.{readingOf, refusedBy};
 
 // The refusal's number, 0 meaning none; block and table with the lengths in use, zeros past them; of a refused text lengths 0 and zeros.
 pub struct Reading {
@@ -57,17 +54,5 @@ pub fn read_text(text: &[u8]) -> Reading
         block_len: n,
         table: t,
         table_len: m,
-    }
-}
-
-// Puts what is printed for a finding of settling into `out`, as far as there is room; the result is the length needed. Of the table,
-// which is as settling left it, the first 288 words are looked at: no accepted sheet has more.
-pub fn write_answer(finding: Settling, block: &[i64], table: &[i64], out: &mut [u8]) -> usize
-    ensures { λ r. ⌜ Put (now (out .entry)) 0 (printedOf finding (now (block .entry)) (take 288 (now (table .entry)))) r (now (out .exit)) ⌝ }
-{
-    match finding {
-        Settling::Settled => listing::put_settled(out, block, table),
-        Settling::NoLayout => stores::put_bytes(out, 0, b"NO LAYOUT\n"),
-        Settling::Refused(g) => listing::put_refused(out, g),
     }
 }

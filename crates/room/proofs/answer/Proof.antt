@@ -1,4 +1,4 @@
--- `room::answer` meets its contract: what reading handed back is refused or settled, and what that prints is put whole.
+-- `answer` meets its contract: what reading handed back is refused or settled, and what that prints is put.
 -- Assumes nothing.
 use mathlib.Core.Path.{_≡_, sym, ap, _∙_}
 use mathlib.Core.List.{List, _++_}
@@ -15,8 +15,8 @@ use mir.Val.{SFits, toZ, ofZ}
 use mir.Facts.{toZ-ofZ}
 use Rattle.integers.proofs.Ints.{ints}
 use Rattle.sheet.specs.declared.Settling.the-variants.{Refused}
-use Rattle.text.specs.Answers.{printedOf}
-use Rattle.text.proofs.Printed.{blockIn, tableIn, block-room, table-room, printed-refused, printed-settled}
+use Rattle.room.specs.Answers.{printedOf}
+use Rattle.room.proofs.Printed.{blockIn, tableIn, block-room, table-room, printed-refused, printed-settled}
 use Rattle.room.proofs.Whole.{answered, front, front-in}
 use Rattle.room.proofs.answer.Statement.{statement}
 use Rattle.room.proofs.answer.Tie as tie

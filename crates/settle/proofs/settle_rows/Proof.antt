@@ -13,9 +13,9 @@ use Rattle.sheet.specs.Layout.{Lent, lentOf, axes, rows}
 use Rattle.sheet.specs.Accepted.{Table}
 use Rattle.sheet.proofs.Accepted.{rows-same}
 use Rattle.nearby.specs.Listing.{Ready}
-use Rattle.settle.specs.Todo.{todo, OnTheWay, toGo}
+use Rattle.settle.specs.Todo.{todo}
 use Rattle.settle.proofs.Turns.{todo-yes}
-use Rattle.settle.proofs.Worked.{worked-start, worked-end}
+use Rattle.settle.proofs.Worked.{OnTheWay, toGo, worked-start, worked-end}
 use Rattle.settle.proofs.Steps.{cleared, Turn, turn-none, turn-still, still-less, turn-good, turn-moved, moved-less}
 use Rattle.settle.proofs.settle_rows.Statement.{statement}
 use Rattle.settle.proofs.settle_rows.Tie as tie

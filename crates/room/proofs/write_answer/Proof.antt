@@ -1,12 +1,12 @@
--- `text::write_answer` meets its contract, by the finding. Assumes nothing.
+-- `write_answer` meets its contract, by the finding. Assumes nothing.
 use mir.Syntax.{w64}
 use mir.Val.{SFits}
 use mir.Facts.{toZ-ofZ}
 use Rattle.sheet.specs.Text.{ascii, printedFor}
-use Rattle.text.specs.Answers.{printedOf}
+use Rattle.room.specs.Answers.{printedOf}
 use borrow.Author.Needs.{needs}
-use Rattle.text.proofs.write_answer.Statement.{statement}
-use Rattle.text.proofs.write_answer.Tie as tie
+use Rattle.room.proofs.write_answer.Statement.{statement}
+use Rattle.room.proofs.write_answer.Tie as tie
 
 enum-told : tie.Need-enum-told
 enum-told c = search needs

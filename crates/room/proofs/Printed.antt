@@ -20,8 +20,9 @@ use Rattle.sheet.specs.Text.{Sheet, ascii, commas, rowLines, printedFor, printe
 use Rattle.sheet.specs.declared.Settling.{Settling}
 use Rattle.sheet.specs.declared.Settling.the-variants as S
 use Rattle.listing.proofs.Sizes.{commas-few, rows-few}
-use Rattle.text.specs.Answers.{readingOf, printedOf}
+use Rattle.text.specs.Answers.{readingOf}
 use Rattle.text.specs.declared.Reading.{Reading}
+use Rattle.room.specs.Answers.{printedOf}
 
 -- ---- the answers of settling
 

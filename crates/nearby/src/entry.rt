@@ -55,9 +55,9 @@ fn side_holds(list: &[i64], at: usize, z: i64) -> bool
 }
 
 // Whether p is in entry e's area.
-pub fn entry_holds(block: &[i64], list: &[i64], e: usize, p: &[i64]) -> bool
-    requires { ⌜ Head (lentOf (now block)) × (entryAt (suc e) ≤ length (now list)) × (4 ≤ length (now p)) ⌝ }
-    ensures { λ r. ⌜ r ≡ entryHolds (now (list .entry)) e (dims (lentOf (now (block .entry)))) (now (p .entry)) ⌝ }
+pub fn entry_holds(block: &[i64], list: &[i64], e: usize, p: [i64; COORDINATES]) -> bool
+    requires { ⌜ Head (lentOf (now block)) × (entryAt (suc e) ≤ length (now list)) ⌝ }
+    ensures { λ r. ⌜ r ≡ entryHolds (now (list .entry)) e (dims (lentOf (now (block .entry)))) p ⌝ }
 {
     let k = words::dims_of(block);
     let at = entry_at(list, e) + 3;

@@ -131,7 +131,7 @@ fn exact_region(
     let count = nearby.count;
     let mut e = 0;
     while e < count {
-        if entry::entry_holds(block, list, e, &p) {
+        if entry::entry_holds(block, list, e, p) {
             return Region {
                 hit: true,
                 area: entry::entry_area(list, e),
@@ -163,12 +163,12 @@ fn listed_region(
     let mut window = [0i64; WINDOW];
     let mut e = 0;
     'pairs: while e < count {
-        if entry::entry_holds(block, list, e, &p) {
+        if entry::entry_holds(block, list, e, p) {
             let x = entry::rival_at(block, table, list, e);
             let r = x.r;
             let j = x.j;
             let c = x.c;
-            window::put_window(block, table, &mut window, x, &p);
+            window::put_window(block, table, &mut window, x, p);
             let mut own = index::first_of(block, list, s);
             while own < n {
                 let b = words::box_place(block, own);

@@ -13,6 +13,7 @@ ghost use Rattle.words.specs.Places.{BoxPlace, RulePlace, RowPlace};
 ghost use Rattle.region.specs.Area.{reach, InField};
 ghost use Rattle.nearby.specs.Window.{reaches, earliest, latest, Window};
 use crate::entry::Rival;
+use region::COORDINATES;
 use words::Place;
 
 // The words of a window: in each dimension where a box must end at the earliest, and after these where it must start at the latest.
@@ -45,11 +46,11 @@ fn put_side(block: &[i64], table: &[i64], window: &mut [i64], x: Rival, d: usize
 }
 
 // Writes the window of the rival at p.
-pub fn put_window(block: &[i64], table: &[i64], window: &mut [i64], x: Rival, p: &[i64])
+pub fn put_window(block: &[i64], table: &[i64], window: &mut [i64], x: Rival, p: [i64; COORDINATES])
     requires { ⌜ Block (lentOf (now block)) × Table (lentOf (now block)) (now table) × RulePlace (lentOf (now block)) (x .r)
-        × RowPlace (lentOf (now block)) (now table) (x .j) × BoxPlace (lentOf (now block)) (x .c) × InField (dims (lentOf (now block))) (now p)
-        × (length (now window) ≡ 8) × (length (now p) ≡ 4) ⌝ }
-    ensures { λ _. ⌜ Window (lentOf (now (block .entry))) (now (table .entry)) (x .r .number) (x .j .number) (x .c .number) (now (p .entry))
+        × RowPlace (lentOf (now block)) (now table) (x .j) × BoxPlace (lentOf (now block)) (x .c) × InField (dims (lentOf (now block))) p
+        × (length (now window) ≡ 8) ⌝ }
+    ensures { λ _. ⌜ Window (lentOf (now (block .entry))) (now (table .entry)) (x .r .number) (x .j .number) (x .c .number) p
         (now (window .exit)) ⌝ }
 {
     let k = words::dims_of(block);

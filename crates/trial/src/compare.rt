@@ -395,7 +395,8 @@ fn accepted(
     placements(u, seed, block, table, fixed, kernel, ours)
 }
 
-// `fixed`, `kernel` and `ours` are runs of the table's length to work in.
+// `fixed`, `kernel` and `ours` are runs of the table's length to work in. Where `whole` is not set, the rows and their points are asked
+// about by chance only.
 pub(crate) fn sheet(
     t: Tally,
     seed: &mut usize,
@@ -404,6 +405,7 @@ pub(crate) fn sheet(
     fixed: &mut [i64],
     kernel: &mut [i64],
     ours: &mut [i64],
+    whole: bool,
 ) -> Tally {
     let g = refusals::refusal(block, table);
     let large = g == 0 && !brute::has_few_points(block, table);
@@ -413,7 +415,7 @@ pub(crate) fn sheet(
         return v;
     }
     let w = asked(v, seed, block, table, kernel, ours);
-    if g > 0 {
+    if g > 0 || !whole {
         return w;
     }
     accepted(w, seed, block, table, fixed, kernel, ours)

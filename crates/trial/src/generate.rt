@@ -174,7 +174,7 @@ fn clear(words: &mut [i64]) {
     }
 }
 
-fn put_head(block: &mut [i64], k: usize, boxes: usize, rules: usize) {
+pub(crate) fn put_head(block: &mut [i64], k: usize, boxes: usize, rules: usize) {
     clear(block);
     put(block, 0, numbers::word_of(k));
     put(block, 1, numbers::word_of(boxes));

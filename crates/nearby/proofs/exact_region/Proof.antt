@@ -5,7 +5,6 @@ use Prim.Native.Nat.{suc, _≤_, _-_}
 use native.Mathlib.Omega.{arith}
 use denote.Ref.{now}
 use lib.ListN.{length}
-use borrow.Author.Needs.{needs}
 use Rattle.integers.specs.Below.{anyBelow}
 use Rattle.integers.proofs.Below.{any-zero}
 use Rattle.sheet.specs.Layout.{lentOf, axes, dims}
@@ -35,44 +34,37 @@ module _ (l : tie.In-loop Inv-loop μ-loop) where
   room : entryAt (suc (l .before .loop .e)) ≤ length (now (l .before .before .args .list))
   room = omega (arith, top .pre .2 .fits, l .loop-test .taken)
 
-  -- the point has four coordinates
-  four : length (l .before .before .args .t7) ≡ 4
-  four = top .good .1 .1 .1 .1 .1 .1 .0 .1 .0 .1
-
-slice-aggregate-entry-holds : tie.Need-slice-aggregate-entry-holds Inv-loop μ-loop
-slice-aggregate-entry-holds c = search needs
-
 entry-holds-requires : tie.Need-entry-holds-requires Inv-loop μ-loop
-entry-holds-requires c κs = let l = c .before in (top l .pre .0 .block .head, room l, omega (arith, four l))
+entry-holds-requires c κs = (top c .pre .0 .block .head, room c)
 
 entry-area-requires : tie.Need-entry-area-requires Inv-loop μ-loop
-entry-area-requires c κs = omega (arith, room (c .before .before .before))
+entry-area-requires c κs = omega (arith, room (c .before .before))
 
 returns : tie.Need-returns Inv-loop μ-loop
 returns c =
     let b = c .before in
     let h = b .before in
-    let l = h .before .before in
+    let l = h .before in
     let p = top l .pre in
     let a = top l .args in
-    subst (λ (x : Area). Forbids (axes (lentOf (now (a .block)))) (forbidden (lentOf (now (a .block))) (now (a .table)) (a .i .number) (a .s)) (a .t7)
+    subst (λ (x : Area). Forbids (axes (lentOf (now (a .block)))) (forbidden (lentOf (now (a .block))) (now (a .table)) (a .i .number) (a .s)) (a .p)
     (record { hit = true; area = x })) (sym (c .entry-area .ensures))
     (held-region _ _ _ _ _ (p .0 .block .head .few-dims) (p .2 .exact (p .3) .1) (p .2 .solid _ (l .loop-test .taken))
     (sym (h .entry-holds .ensures) ∙ b .if1 .taken))
 
 add-e : tie.Need-add-e Inv-loop μ-loop
-add-e c = omega (arith, c .before .before .before .loop-test .taken)
+add-e c = omega (arith, c .before .before .loop-test .taken)
 
 loop-less : tie.Need-loop-less Inv-loop μ-loop
-loop-less c = omega (arith, c .before .before .before .loop-test .taken)
+loop-less c = omega (arith, c .before .before .loop-test .taken)
 
 loop-again : tie.Need-loop-again Inv-loop μ-loop
 loop-again c =
     let h = c .before in
-    let l = h .before .before in
+    let l = h .before in
     let a = top l .args in (
       omega (arith, l .loop-test .taken),
-      none-more (λ m. entryHolds (now (a .list)) m (dims (lentOf (now (a .block)))) (a .t7)) (l .before .loop .inv .1)
+      none-more (λ m. entryHolds (now (a .list)) m (dims (lentOf (now (a .block)))) (a .p)) (l .before .loop .inv .1)
           (sym (h .entry-holds .ensures) ∙ c .if1 .left),
     )
 
@@ -94,7 +86,6 @@ exact-region-spec =
     Inv-loop
     μ-loop
     loop-holds
-    slice-aggregate-entry-holds
     entry-holds-requires
     entry-area-requires
     returns

@@ -56,35 +56,25 @@ module _ (l : tie.In-pairs Inv-loop μ-loop Inv-pairs μ-pairs) where
   room : entryAt (suc (l .before .pairs .e)) ≤ length (now (l .before .before .before .before .args .list))
   room = omega (arith, top .pre .2 .fits, l .pairs-test .taken)
 
-  -- the point has four coordinates
-  four : length (l .before .before .before .before .args .t7) ≡ 4
-  four = top .good .1 .1 .1 .1 .1 .1 .0 .1 .0 .1
-
-slice-aggregate-entry-holds : tie.Need-slice-aggregate-entry-holds Inv-loop μ-loop Inv-pairs μ-pairs
-slice-aggregate-entry-holds c = search needs
-
 entry-holds-requires : tie.Need-entry-holds-requires Inv-loop μ-loop Inv-pairs μ-pairs
-entry-holds-requires c κs = let l = c .before in (top l .pre .0 .block .head, room l, omega (arith, four l))
+entry-holds-requires c κs = (top c .pre .0 .block .head, room c)
 
 rival-at-requires : tie.Need-rival-at-requires Inv-loop μ-loop Inv-pairs μ-pairs
 rival-at-requires c κs =
-    let l = c .before .before .before in
+    let l = c .before .before in
     let p = top l .pre in
     (p .0 .block, p .0 .table, room l, p .2 .entries _ (below-count l) .names)
 
 slice-aggregate-put-window : tie.Need-slice-aggregate-put-window Inv-loop μ-loop Inv-pairs μ-pairs
 slice-aggregate-put-window c = search needs
 
-slice-aggregate-put-window-2 : tie.Need-slice-aggregate-put-window-2 Inv-loop μ-loop Inv-pairs μ-pairs
-slice-aggregate-put-window-2 c = sym (four (c .before .before .before .before .before .before .before .before .before))
-
 put-window-requires : tie.Need-put-window-requires Inv-loop μ-loop Inv-pairs μ-pairs
 put-window-requires c κs =
-    let x = c .before .before .before .before .before in
-    let l = x .before .before .before .before in
+    let x = c .before .before .before .before in
+    let l = x .before .before .before in
     let p = top l .pre .0 in
     let u = x .rival-at .ensures in
-    (p .block, p .table, u .0, u .1, u .2, record { near = λ d h. p .near .near d (axis _ h) }, l .before .pairs .inv .2, four l)
+    (p .block, p .table, u .0, u .1, u .2, record { near = λ d h. p .near .near d (axis _ h) }, l .before .pairs .inv .2)
 
 -- the window is still of eight words
 window-length : (c : tie.After-put-window Inv-loop μ-loop Inv-pairs μ-pairs) → length (c .put-window .last .1 .1 .0) ≡ 8
@@ -92,29 +82,29 @@ window-length c = search needs
 
 first-of-requires : tie.Need-first-of-requires Inv-loop μ-loop Inv-pairs μ-pairs
 first-of-requires c κs =
-    let p = top (c .before .before .before .before .before .before .before .before .before .before .before) .pre in
+    let p = top (c .before .before .before .before .before .before .before .before .before) .pre in
     (omega (arith, p .1 .long), p .1 .index, p .4, p .5)
 
 loop-holds : tie.Need-loop-holds Inv-loop μ-loop Inv-pairs μ-pairs
 loop-holds c =
-    let x = c .before .before .before .before .before .before .before .before in
-    let l = x .before .before .before .before in
+    let x = c .before .before .before .before .before .before .before in
+    let l = x .before .before .before in
     let n = l .before .before .before .boxes-of .ensures in
     let a = top l .args in (
       omega (arith, n, c .first-of .ensures .0),
       λ h. c .first-of .ensures .1 (omega (arith, n, h)),
       refl,
       false-any {f = λ b. ownForbids (lentOf (now (a .block))) (now (a .table)) (a .i .number) (a .s) (x .rival-at .result .r .number)
-          (x .rival-at .result .j .number) (x .rival-at .result .c .number) b (a .t7)} (λ m h. rw (c .first-of .ensures .2 m h)),
+          (x .rival-at .result .j .number) (x .rival-at .result .c .number) b (a .p)} (λ m h. rw (c .first-of .ensures .2 m h)),
     )
 
 -- own box b
 module _ (c : tie.In-loop Inv-loop μ-loop Inv-pairs μ-pairs) where
   abbrev rival : tie.After-rival-at Inv-loop μ-loop Inv-pairs μ-pairs
-  rival = c .before .before .before .before .before .before .before .before .before .before
+  rival = c .before .before .before .before .before .before .before .before .before
 
   abbrev line : tie.In-pairs Inv-loop μ-loop Inv-pairs μ-pairs
-  line = c .before .before .before .before .before .before .before .before .before .before .before .before .before .before
+  line = c .before .before .before .before .before .before .before .before .before .before .before .before
 
   abbrev put : tie.After-put-window Inv-loop μ-loop Inv-pairs μ-pairs
   put = c .before .before .before .before
@@ -170,7 +160,7 @@ module _ (c : tie.After-is-reached Inv-loop μ-loop Inv-pairs μ-pairs) where
 
   forbids-if : (x : Bool) → c .is-reached .result ≡ x
       → pairForbids (lentOf (now (s box .args .block))) (now (s box .args .table)) (rival (box .before) .rival-at .result .r .number)
-      (s box .args .t7) (s box .args .i .number) (box .box-place .result .number) (rival (box .before) .rival-at .result .j .number)
+      (s box .args .p) (s box .args .i .number) (box .box-place .result .number) (rival (box .before) .rival-at .result .j .number)
       (rival (box .before) .rival-at .result .c .number) ≡ x
   forbids-if x e =
       sym (put (box .before) .put-window .ensures .is (s box .args .i .number) (box .box-place .result .number) (places box .own .below))
@@ -200,7 +190,7 @@ loop-again c =
     let n = line l .before .before .before .boxes-of .ensures in
     let e = b .box-place .ensures .1 in
     let own : ℕ → Bool = λ m.
-    ownForbids (lentOf (now (a .block))) (now (a .table)) (a .i .number) (a .s) (x .r .number) (x .j .number) (x .c .number) m (a .t7) in (
+    ownForbids (lentOf (now (a .block))) (now (a .table)) (a .i .number) (a .s) (x .r .number) (x .j .number) (x .c .number) m (a .p) in (
       omega (arith, c .after .ensures .1, n),
       λ h. c .after .ensures .2 (omega (arith, n, h)),
       l .before .loop .inv .2,
@@ -217,17 +207,17 @@ pairs-less c = omega arith
 pairs-again : tie.Need-pairs-again Inv-loop μ-loop Inv-pairs μ-pairs
 pairs-again c =
     let h = c .before in
-    let l = h .before .before in
+    let l = h .before in
     let a = top l .args in
     let lent = lentOf (now (a .block)) in (
       omega arith,
-      ⊎-elim (λ w. w .12 ∙ w .10 .inv .2 ∙ l .before .pairs .inv .1) (λ w. w .1 ∙ l .before .pairs .inv .1) (c .if1 .came),
-      ⊎-elim (λ w. ap length (w .13) ∙ search needs) (λ w. ap length (w .2) ∙ l .before .pairs .inv .2) (c .if1 .came),
+      ⊎-elim (λ w. w .11 ∙ w .9 .inv .2 ∙ l .before .pairs .inv .1) (λ w. w .1 ∙ l .before .pairs .inv .1) (c .if1 .came),
+      ⊎-elim (λ w. ap length (w .12) ∙ search needs) (λ w. ap length (w .2) ∙ l .before .pairs .inv .2) (c .if1 .came),
       none-more _ (l .before .pairs .inv .3)
           (⊎-elim
           (λ w. let x = w .1 .ensures in
-          missed-entry lent (now (a .table)) (a .i .number) (a .s) (now (a .list)) (l .before .pairs .e) (a .t7) (x .3) (x .4) (x .5)
-          (omega (arith, w .10 .inv .0, w .11 .left, l .before .before .before .boxes-of .ensures)) (w .10 .inv .3))
+          missed-entry lent (now (a .table)) (a .i .number) (a .s) (now (a .list)) (l .before .pairs .e) (a .p) (x .3) (x .4) (x .5)
+          (omega (arith, w .9 .inv .0, w .10 .left, l .before .before .before .boxes-of .ensures)) (w .9 .inv .3))
           (λ w. rw (sym (h .entry-holds .ensures) ∙ w .0 .left))
           (c .if1 .came)),
     )
@@ -264,11 +254,9 @@ listed-region-spec =
     boxes-of-requires
     none-requires
     pairs-holds
-    slice-aggregate-entry-holds
     entry-holds-requires
     rival-at-requires
     slice-aggregate-put-window
-    slice-aggregate-put-window-2
     put-window-requires
     first-of-requires
     loop-holds

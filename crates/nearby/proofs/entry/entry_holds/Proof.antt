@@ -51,8 +51,8 @@ add-side-holds c =
 mul-side-holds-2 : tie.Need-mul-side-holds-2 Inv-loop μ-loop
 mul-side-holds-2 c = omega (arith, few (c .before), c .loop-test .taken)
 
-shared-slice-copy-out-side-holds : tie.Need-shared-slice-copy-out-side-holds Inv-loop μ-loop
-shared-slice-copy-out-side-holds c = omega (arith, few (c .before), s (c .before) .pre .2, c .loop-test .taken)
+array-copy-out-side-holds : tie.Need-array-copy-out-side-holds Inv-loop μ-loop
+array-copy-out-side-holds c = omega (arith, few (c .before), c .loop-test .taken)
 
 side-holds-requires : tie.Need-side-holds-requires Inv-loop μ-loop
 side-holds-requires c κs =
@@ -71,13 +71,13 @@ module _ (c : tie.After-side-holds Inv-loop μ-loop) where
   test d =
       let l = now (s top .args .list) in
       let at = entryAt (s top .args .e) + 3 + 2 * d in
-      within (word l at) (word l (at + 1)) (word (now (s top .args .p)) d)
+      within (word l at) (word l (at + 1)) (word (s top .args .t4) d)
 
   tested : c .side-holds .result ≡ test (top .loop .d)
   tested =
       let l = now (s top .args .list) in
       let d = top .loop .d in
-      let z = word (now (s top .args .p)) d in
+      let z = word (s top .args .t4) d in
       c .side-holds .ensures
       ∙ ap (within _ _) (bits-back {z = z} (c .before .side-holds-arg .given))
       ∙ ap (λ (m : ℕ). within (word l (m + 3 + 2 * d)) (word l (m + 3 + 2 * d + 1)) z) (top .before .entry-at .ensures)
@@ -119,7 +119,7 @@ entry-holds-spec =
     mul-side-holds
     add-side-holds
     mul-side-holds-2
-    shared-slice-copy-out-side-holds
+    array-copy-out-side-holds
     side-holds-requires
     returns
     add-d

@@ -44,8 +44,8 @@ loop-holds c = (omega arith, (c .before .pre .6, λ e h. absurd (omega arith)))
 mul-put-side : tie.Need-mul-put-side Inv-loop μ-loop
 mul-put-side c = omega (arith, few (c .before))
 
-shared-slice-copy-out-put-side : tie.Need-shared-slice-copy-out-put-side Inv-loop μ-loop
-shared-slice-copy-out-put-side c = omega (arith, few (c .before), s (c .before) .pre .7)
+array-copy-out-put-side : tie.Need-array-copy-out-put-side Inv-loop μ-loop
+array-copy-out-put-side c = few (c .before)
 
 -- the coordinate
 module _ (c : tie.After-put-side-arg2 Inv-loop μ-loop) where
@@ -53,7 +53,7 @@ module _ (c : tie.After-put-side-arg2 Inv-loop μ-loop) where
   i = c .before .before
 
   abbrev z : ℤ
-  z = word (now (s i .args .p)) (d i)
+  z = word (s i .args .t5) (d i)
 
   z-is : toZ w64 (ofZ w64 z) ≡ z
   z-is = bits-back {z = z} (c .put-side-arg2 .given)
@@ -79,8 +79,8 @@ loop-again c =
     let inv = l .before .loop .inv in
     let e = c .before .put-side .ensures in (
       omega (arith, l .loop-test .taken),
-      subst (Written (lentOf (now (a .block))) (now (a .table)) (a .x .r .number) (a .x .j .number) (a .x .c .number) (now (a .p)) (d l + 1)) (sym e)
-          (written-more (lentOf (now (a .block))) (now (a .table)) (a .x .r .number) (a .x .j .number) (a .x .c .number) (now (a .p))
+      subst (Written (lentOf (now (a .block))) (now (a .table)) (a .x .r .number) (a .x .j .number) (a .x .c .number) (a .t5) (d l + 1)) (sym e)
+          (written-more (lentOf (now (a .block))) (now (a .table)) (a .x .r .number) (a .x .j .number) (a .x .c .number) (a .t5)
           (d l) w _ _ (few l) (inv .1)
           (ap (earliest (lentOf (now (a .block))) (now (a .table)) (a .x .r .number) (a .x .j .number) (a .x .c .number) (d l)) (z-is b))
           (ap (latest (lentOf (now (a .block))) (now (a .table)) (a .x .r .number) (a .x .j .number) (a .x .c .number) (d l)) (z-is b))),
@@ -94,7 +94,7 @@ returns c =
     let l = c .before in
     let a = l .before .before .args in
     let q : l .loop .d ≡ dims (lentOf (now (a .block))) = omega (arith, l .loop .inv .0, l .before .dims-of .ensures, c .loop-test .left) in
-    written-window (lentOf (now (a .block))) (now (a .table)) (a .x .r .number) (a .x .j .number) (a .x .c .number) (now (a .p))
+    written-window (lentOf (now (a .block))) (now (a .table)) (a .x .r .number) (a .x .j .number) (a .x .c .number) (a .t5)
     (l .loop .window) (l .before .before .pre .0)
     (l .loop .inv .1 .0, λ e h. l .loop .inv .1 .1 e (omega (arith, h, q)))
 
@@ -107,7 +107,7 @@ put-window-spec =
     dims-of-requires
     loop-holds
     mul-put-side
-    shared-slice-copy-out-put-side
+    array-copy-out-put-side
     put-side-requires
     add-d
     loop-less

@@ -1,5 +1,5 @@
-// The points that the non-overlap rules forbid to a row: a forbidden point with an area around it in which every point is forbidden.
-// This crate is the one place that knows rules of kind 1.
+// The points that the non-overlap rules (kind 1) forbid to a row, tested pair by pair: a forbidden point with an area around it in which
+// every point is forbidden. For judging, for the test of a point and where a list is full; crates/nearby finds the same for its lists.
 pub mod pair;
 pub mod row;
 

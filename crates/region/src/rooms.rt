@@ -1,5 +1,5 @@
-// The room rules of a row, as cuts of an area in place: `ends` holds its low point, then its high point.
-// This is the one place that knows rules of kind 2.
+// The room rules (kind 2) of a row, as cuts of an area in place: `ends` holds its low point, then its high point. Besides acceptance no
+// other code of the kernel reads a room.
 ghost use mathlib.Core.Path.{_≡_};
 ghost use mathlib.Core.Bool.{_&&_};
 ghost use Prim.Native.Nat.{_<_, _≤_};

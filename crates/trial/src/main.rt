@@ -12,6 +12,7 @@ mod numbers; // numbers.rt: sums and places
 mod refusals; // refusals.rt: the grounds
 mod tally; // tally.rt: what is counted
 
+use generate::Lengths;
 use libc::STDOUT_FILENO;
 use tally::Tally;
 
@@ -31,18 +32,21 @@ const BLOCK: usize = 1507;
 
 const TABLE: usize = 288;
 
-// A small sheet; `kind` is one of a larger sheet, or past them.
+// A larger sheet of a kind; a small one where there is no such kind.
+fn generated(seed: &mut usize, block: &mut [i64], table: &mut [i64], kind: usize) -> Lengths {
+    if kind < large::KINDS {
+        return large::sheet(seed, block, table, kind);
+    }
+    generate::sheet(seed, block, table)
+}
+
 fn sheet(t: Tally, seed: &mut usize, kind: usize) -> Tally {
     let mut block = [0i64; BLOCK];
     let mut table = [0i64; TABLE];
     let mut fixed = [0i64; TABLE];
     let mut kernel = [0i64; TABLE];
     let mut ours = [0i64; TABLE];
-    let z = if kind < large::KINDS {
-        large::sheet(seed, &mut block, &mut table, kind)
-    } else {
-        generate::sheet(seed, &mut block, &mut table)
-    };
+    let z = generated(seed, &mut block, &mut table, kind);
     let b = z.block;
     let n = z.table;
     if b > BLOCK || n > TABLE {

@@ -1,4 +1,5 @@
-// Reading the words of a sheet: one small reader for each kind of word, so that no other code knows where a word stands.
+// Reading the words of a sheet: one small reader for each kind of word. Where a word stands is known besides to acceptance (k, B and R,
+// before there is a head to lean on), to the writing of a narrowed row, and to the reader and the writer of a text.
 // A record's place is found once and handed on. The readers lean on the lengths that checks 2 to 5 leave (`Head`, `Rows`), and on
 // the range of a word only where it is cast.
 ghost use mathlib.Core.Path.{_≡_};

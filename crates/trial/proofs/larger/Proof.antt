@@ -1,0 +1,50 @@
+-- `trial::larger` is safe and ends: m runs up to n. Assumes nothing.
+use Prim.Native.Nat.{_≤_, _-_}
+use borrow.Author.Needs.{needs}
+use Rattle.trial.proofs.larger.Statement.{statement}
+use Rattle.trial.proofs.larger.Tie as tie
+
+abbrev Inv-loop : tie.InvT-loop
+Inv-loop n seed₀ t₀ m₀ seed t m = m ≤ n
+
+abbrev μ-loop : tie.MeasureT-loop
+μ-loop n seed₀ t₀ m₀ seed t m = n - m
+
+new-requires : tie.Need-new-requires Inv-loop μ-loop
+new-requires c κs = search needs
+
+loop-holds : tie.Need-loop-holds Inv-loop μ-loop
+loop-holds c = search needs
+
+remainder-requires : tie.Need-remainder-requires Inv-loop μ-loop
+remainder-requires c κs = search needs
+
+sheet-requires : tie.Need-sheet-requires Inv-loop μ-loop
+sheet-requires c κs = search needs
+
+add-m : tie.Need-add-m Inv-loop μ-loop
+add-m c = search needs
+
+loop-less : tie.Need-loop-less Inv-loop μ-loop
+loop-less c = search needs
+
+loop-again : tie.Need-loop-again Inv-loop μ-loop
+loop-again c = search needs
+
+returns : tie.Need-returns Inv-loop μ-loop
+returns c = search needs
+
+pub larger-spec : {M : Type 1} → statement M
+larger-spec =
+    tie.close
+    (tie.spec
+    Inv-loop
+    μ-loop
+    new-requires
+    loop-holds
+    remainder-requires
+    sheet-requires
+    add-m
+    loop-less
+    loop-again
+    returns)

@@ -16,7 +16,8 @@ use Rattle.sheet.specs.Layout.{lentOf, rowLen, rows}
 use Rattle.sheet.specs.Refusal.{refusal}
 use Rattle.sheet.specs.Settle.{settleOf}
 use Rattle.sheet.specs.Answer.{settleAnswer, tableAfter}
-use Rattle.sheet.specs.Text.{Sheet, ascii, commas, rowLines, printedFor, printed, readText, refusalRead, refusalText, sheetUnless, sheetRead, padded, reading}
+use Rattle.sheet.specs.Text.{Sheet, ascii, commas, rowLines, printedFor, printed}
+use Rattle.sheet.specs.Text.{readText, refusalRead, refusalText, sheetUnless, sheetRead, padded, reading}
 use Rattle.sheet.specs.declared.Settling.{Settling}
 use Rattle.sheet.specs.declared.Settling.the-variants as S
 use Rattle.listing.proofs.Sizes.{commas-few, rows-few}

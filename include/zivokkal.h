@@ -62,13 +62,16 @@
    Nothing else is asked: words and numbers may have any value.
 
    There is no global state, no memory is allocated and no pointer is kept, so calls on different tables
-   may run in different threads at once, also over one block. No function recurses; zk_settle, zk_narrow,
-   zk_least and zk_greatest used 51 to 77 KB of stack where it was measured (6,365 words of it are a list
-   of what can forbid a row), the others less than 1 KB; 128 KB leave room for changes.
+   may run in different threads at once, also over one block. No function recurses. Nothing is proved
+   about the stack: where it was measured zk_settle, zk_narrow, zk_least and zk_greatest used 52 to 78 KB
+   of it (6,365 words of it are a list of what can forbid a row), the others less than 1 KB; 128 KB leave
+   room for changes.
 
    Time: every call ends, but there is no limit to it that helps in practice, and a call cannot be
-   interrupted. Ordinary sheets settle in microseconds to milliseconds. A sheet that is made for
-   it can make one search visit a number of points that grows as the fourth power of the number of boxes
+   interrupted. Ordinary sheets settle in microseconds to milliseconds. Beside document 000's filtering in
+   plain Rust with its forbidden regions listed, settling takes @LISTMEAN@ of the time (geometric mean over the
+   benchmark's lines with one copy of a rule), @LISTLINE@ on the worst line and @LISTSHEET@ on the worst sheet;
+   docs/PERFORMANCE.md has every line. A sheet that is made for it can make one search visit a number of points that grows as the fourth power of the number of boxes
    (k = 4), and rows can push each other one unit at a time over the whole of their ranges. Where sheets
    come from outside, call from a thread or a process that can be left. */
 #ifndef ZIVOKKAL_H

@@ -227,6 +227,11 @@ fn worst(m: &Measured, ratio: &Ratio) -> f64 {
     m.each.iter().map(|times| times[ratio.over] / times[ratio.under]).fold(0.0, f64::max)
 }
 
+/// The line for which `of` is greatest.
+fn greatest(measured: &[Measured], of: impl Fn(&Measured) -> f64) -> &Measured {
+    measured.iter().max_by(|a, b| of(a).total_cmp(&of(b))).expect("a line was measured")
+}
+
 fn geometric_mean(values: impl Iterator<Item = f64>) -> f64 {
     let (count, sum) = values.fold((0, 0.0), |(count, sum), x| (count + 1, sum + x.ln()));
     (sum / count as f64).exp()
@@ -235,20 +240,29 @@ fn geometric_mean(values: impl Iterator<Item = f64>) -> f64 {
 fn summary(measured: &[Measured]) {
     println!("\nEach line: four sheets (packed, open, chain, clash); microseconds a settle, the mean of the four;");
     println!("'worst' is the greatest ratio of one of the four. All agreed word for word on every sheet.\n");
+    let name = |m: &Measured| parameters(&m.line).join(" ");
     for ratio in RATIOS {
         let of = |m: &Measured| m.mean[ratio.over] / m.mean[ratio.under];
-        let greatest = measured.iter().max_by(|a, b| of(a).total_cmp(&of(b))).unwrap();
+        let line = greatest(measured, of);
+        let sheet = greatest(measured, |m| worst(m, ratio));
         println!(
-            "{}: geometric mean {:.2}, worst line {:.2}, worst sheet {:.2}, lines above 1.0: {}, above 1.2: {}",
+            "{}: geometric mean {:.2}, over the lines with one copy {:.2}; lines above 1.0: {}, above 1.2: {}",
             ratio.name,
             geometric_mean(measured.iter().map(of)),
-            of(greatest),
-            measured.iter().map(|m| worst(m, ratio)).fold(0.0, f64::max),
+            geometric_mean(measured.iter().filter(|m| m.line.copies == 1).map(of)),
             measured.iter().filter(|m| of(m) > 1.0).count(),
             measured.iter().filter(|m| of(m) > 1.2).count(),
         );
-        println!("  the worst line: {}", parameters(&greatest.line).join(" "));
+        println!(
+            "  worst line {:.2} ({}), worst sheet {:.2} ({})",
+            of(line),
+            name(line),
+            worst(sheet, ratio),
+            name(sheet)
+        );
     }
+    let slowest = greatest(measured, |m| m.mean[0]);
+    println!("{}: slowest line {:.0} microseconds ({})", SUBJECTS[0].0, slowest.mean[0], name(slowest));
     println!("\nGeometric means of microseconds a settle:");
     for (column, name) in ["rows", "dims", "boxes", "ranges", "shapes", "copies"].into_iter().enumerate() {
         let value_of = |m: &Measured| parameters(&m.line)[column].clone();

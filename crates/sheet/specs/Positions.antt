@@ -177,8 +177,8 @@ positions =
     -- two rows of size 2 in a room 0 to 3, range 0..1 each: no layout; room 0 to 4, range 0..2 each: settled as given
     ∷ case (room 3 3) (row 1 (pos 0) (pos 1) ++ row 1 (pos 0) (pos 1)) (settles none)
     ∷ case (room 3 4) (row 1 (pos 0) (pos 2) ++ row 1 (pos 0) (pos 2)) (settles (some (row 1 (pos 0) (pos 2) ++ row 1 (pos 0) (pos 2))))
-    -- three rows of size 2 in a room 0 to 5, range 0..3: settled as given, though no layout exists: none of the 64 placements is good.
-    -- Of the 9 placements of the two rows in the room 0 to 4 there are two
+    -- three rows of size 2 in a room 0 to 5, range 0..3: settled as given, though no layout exists: of their 64 placements none is good.
+    -- Of the 9 placements of the two rows in the room 0 to 4 two are good
     ∷ case (room 7 5) threeRows (settles (some threeRows))
     ∷ case (room 7 5) threeRows (hasLayouts 64 0)
     ∷ case (room 3 4) (row 1 (pos 0) (pos 2) ++ row 1 (pos 0) (pos 2)) (hasLayouts 9 2)

@@ -11,6 +11,7 @@ use lib.IntN.{ℤ}
 use Rattle.sheet.specs.Layout.{Lent, lentOf, axes}
 use Rattle.region.proofs.Areas.{in-small}
 use Rattle.sweep.specs.declared.Sweep.{Sweep}
+use Rattle.sweep.specs.Point.{turnedEnd}
 use Rattle.sweep.specs.Rotation.{rotation}
 use Rattle.sweep.specs.Moves.{advance, jumpedPast}
 use Rattle.bounds.proofs.Swept.{Swept, pointsLeft, Task, task-end-near, near-low, near-high, near-last}
@@ -117,6 +118,10 @@ module _ (c : tie.After-turned-end3 Inv-loop μ-loop) where
   hit : asked .region-at .result .hit ≡ true
   hit = not-false _ (c .before .before .before .before .if1 .left)
 
+  last-ends : c .turned-end3 .result
+      ≡ turnedEnd (entry (ends (asked .before)) .args .flip) (asked .region-at .result .area .low) (asked .region-at .result .area .high)
+  last-ends = c .turned-end3 .ensures
+
   last-long : length (c .turned-end3 .result) ≡ 4
   last-long = search needs
 
@@ -126,7 +131,7 @@ turned-end-requires-3 c κs = near-low (c .before .before .before .before .regio
 jumped-requires : tie.Need-jumped-requires Inv-loop μ-loop
 jumped-requires c κs =
     let x = asked c in
-    near-last (entry (ends (x .before)) .args .flip) (x .region-at .result .area) (x .region-at .ensures .small) (c .turned-end3 .ensures)
+    near-last (entry (ends (x .before)) .args .flip) (x .region-at .result .area) (x .region-at .ensures .small) (last-ends c)
 
 advanced-requires : tie.Need-advanced-requires Inv-loop μ-loop
 advanced-requires c κs = task-end-near (task (ends (asked (c .before) .before)))
@@ -156,14 +161,14 @@ module _ (c : tie.After-advanced Inv-loop μ-loop) where
   next =
       swept-on (task b) (rows b) (row b) (shape b) (loop point .loop .inv .0) (point .turned-point .ensures) (loop point .loop .inv .1)
       (asked region .region-at .result .area) (asked region .region-at .ensures .around (hit region))
-      (asked region .region-at .ensures .only (hit region)) (region .turned-end3 .ensures) (last-long region) moves
+      (asked region .region-at .ensures .only (hit region)) (last-ends region) (last-long region) moves
 
   falls : c .advanced .result .live ≡ true
       → pointsLeft (lent b) (entry b .args .d) (first b) (end b) (c .advanced .result) < pointsLeft (lent b) (entry b .args .d) (first b) (end b) w
   falls =
       swept-falls (task b) (rows b) (row b) (shape b) (loop point .loop .inv .0) (point .turned-point .ensures) (loop point .loop .inv .1)
       (asked region .region-at .result .area) (asked region .region-at .ensures .around (hit region))
-      (asked region .region-at .ensures .only (hit region)) (region .turned-end3 .ensures) (last-long region) moves
+      (asked region .region-at .ensures .only (hit region)) (last-ends region) (last-long region) moves
 
 returns-2 : tie.Need-returns-2 Inv-loop μ-loop
 returns-2 c =

@@ -1,6 +1,5 @@
 -- `ends::widen` meets its contract: the ends in the dimensions passed have taken in the shape. Assumes nothing.
 use mathlib.Core.Path.{_≡_, sym, _∙_}
-use mathlib.Core.Bool.{true, false}
 use Prim.Native.Nat.{suc, _≤_, _<_, _-_}
 use native.Mathlib.Omega.{arith}
 use denote.Ref.{now}
@@ -37,7 +36,7 @@ widen-end-requires c κs =
     let l = c .before in
     let w = l .before .loop in
     let p = l .before .before .before .pre in
-    (p .0, p .1, p .2, below-axes l, p .3, p .4, p .5, p .6, w .inv .1, w .inv .2 false (w .d) (below-axes l), p .9, p .10)
+    (p .0, p .1, p .2, below-axes l, p .3, p .4, p .5, p .6, w .inv .1, w .inv .2 _ (w .d) (below-axes l), p .9, p .10)
 
 widen-end-requires-2 : tie.Need-widen-end-requires-2 Inv-loop μ-loop
 widen-end-requires-2 c κs =
@@ -55,7 +54,7 @@ widen-end-requires-2 c κs =
       p .5,
       p .6,
       n .ends .given ∙ w .inv .1,
-      n .before .widen-end .ensures .0 (s .args .s) true (w .d) (below-axes l) (w .inv .2 true (w .d) (below-axes l)),
+      n .before .widen-end .ensures .0 (s .args .s) _ (w .d) (below-axes l) (w .inv .2 _ (w .d) (below-axes l)),
       p .9,
       p .10,
     )

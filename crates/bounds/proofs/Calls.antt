@@ -61,7 +61,8 @@ module _ (lent : Lent) (t : List ℤ) (row shape dim : ℤ) (e : refusalDim lent
       (record { from = omega ints; upto = omega ints }, omega (ints, disjoint dim))
 
   pub asked : Asked lent t row shape dim
-  asked = record { accepted = row-accepted lent t row (parts .0) .0; row-in = number; shape-in = shape-count; dim-in = dim-is .0; dim-below = dim-is .1 }
+  asked =
+      record { accepted = row-accepted lent t row (parts .0) .0; row-in = number; shape-in = shape-count; dim-in = dim-is .0; dim-below = dim-is .1 }
 
 -- ---- the answers
 pub answer-refused : {g : ℕ} (o : Option ℤ) → 0 < g → boundAnswer g o ≡ B.Refused (pos g)

@@ -18,7 +18,8 @@ use Rattle.region.proofs.Areas.{none-in}
 use Rattle.bounds.specs.Search.{Ahead, freeIn, extremeOf}
 
 -- a test that passes at the same points has the same extremes
-extreme-same : {before : ℤ → ℤ → Type 0} {f g : List ℤ → Bool} {d : ℕ} (o : Option ℤ) → ((p : List ℤ) → f p ≡ g p) → Extreme before f d o → Extreme before g d o
+extreme-same : {before : ℤ → ℤ → Type 0} {f g : List ℤ → Bool} {d : ℕ} (o : Option ℤ) → ((p : List ℤ) → f p ≡ g p) → Extreme before f d o
+    → Extreme before g d o
 extreme-same none same (nowhere h) = nowhere (λ p e. h p (same p ∙ e))
 extreme-same (some z) same (there p e w h) = there p (sym (same p) ∙ e) w (λ q f. h q (same q ∙ f))
 
@@ -28,12 +29,14 @@ module _ (lent : Lent) (t : List ℤ) (i s : ℕ) (a : Area) (cut : CutBox lent 
   cut-free p = ap (λ (b : Bool). b && not (forbidden lent t i s p)) (cut .is p)
 
   -- the one extreme of the allowed points
-  extreme-is : (flip : Bool) (d : ℕ) → d < axes lent → (o : Option ℤ) → Extreme (Ahead flip) (allowed lent t i s) d o → o ≡ extremeOf flip lent t i s d
+  extreme-is : (flip : Bool) (d : ℕ) → d < axes lent → (o : Option ℤ) → Extreme (Ahead flip) (allowed lent t i s) d o
+      → o ≡ extremeOf flip lent t i s d
   unfolding extremeOf
   extreme-is true d h o x = greatest-unique o (greatestOf lent t i s d) x (greatest-of lent t i s d h)
   extreme-is false d h o x = least-unique o (leastOf lent t i s d) x (least-of lent t i s d h)
 
-  pub cut-extreme : (flip : Bool) (d : ℕ) → d < axes lent → (o : Option ℤ) → Extreme (Ahead flip) (freeIn lent t i s a) d o → o ≡ extremeOf flip lent t i s d
+  pub cut-extreme : (flip : Bool) (d : ℕ) → d < axes lent → (o : Option ℤ) → Extreme (Ahead flip) (freeIn lent t i s a) d o
+      → o ≡ extremeOf flip lent t i s d
   cut-extreme flip d h o x = extreme-is flip d h o (extreme-same o cut-free x)
 
   pub cut-empty : (flip : Bool) (d : ℕ) → d < axes lent → inArea (axes lent) a (a .low) ≡ false → none ≡ extremeOf flip lent t i s d

@@ -34,7 +34,8 @@ module _ (v b : ℕ) (bs : List ℕ) where
   digit-no e = rw (e, digitsFrom)
 
 module _ (s : List ℕ) (i v : ℕ) where
-  pub digits-more : i < length s → between 48 57 (getD s i 0) ≡ true → digitsFrom v (drop i s) ≡ digitsFrom (v * 10 + (getD s i 0 - 48)) (drop (i + 1) s)
+  pub digits-more : i < length s → between 48 57 (getD s i 0) ≡ true
+      → digitsFrom v (drop i s) ≡ digitsFrom (v * 10 + (getD s i 0 - 48)) (drop (i + 1) s)
   digits-more h e = ap (digitsFrom v) (drop-cons s i 0 h) ∙ digit-yes v _ _ e ∙ rw add-one
 
   pub digits-bad : i < length s → between 48 57 (getD s i 0) ≡ false → digitsFrom v (drop i s) ≡ none
@@ -92,7 +93,8 @@ pub positive-long : (s : List ℕ) → 10 < length s → positive s ≡ none
 positive-long [] h = absurd (omega arith)
 positive-long (b ∷ bs) h = positive-cons b bs ∙ (let q : 9 < length bs = omega arith in rw (lt-leb (length bs) 9 q, and-false))
 
-pub positive-good : (s : List ℕ) → 0 < length s → between 49 57 (getD s 0 0) ≡ true → length s ≤ 10 → positive s ≡ digitsFrom (getD s 0 0 - 48) (drop 1 s)
+pub positive-good : (s : List ℕ) → 0 < length s → between 49 57 (getD s 0 0) ≡ true → length s ≤ 10
+    → positive s ≡ digitsFrom (getD s 0 0 - 48) (drop 1 s)
 positive-good [] h e g = absurd (omega arith)
 positive-good (b ∷ bs) h e g = positive-cons b bs ∙ (let q : length bs ≤ 9 = omega arith in rw (e, le-leb (length bs) 9 q))
 

@@ -20,7 +20,8 @@ use Rattle.line.specs.declared.number.Number.the-variants as N
 use Rattle.line.proofs.Digits.{positive-bad}
 
 number-cons : (b : ℕ) (bs : List ℕ)
-    → number (b ∷ bs) ≡ cond (eqb b 48 && eqb (length bs) 0) (some (pos 0)) (cond (eqb b 45) (signed minus (positive bs)) (signed pos (positive (b ∷ bs))))
+    → number (b ∷ bs) ≡ cond (eqb b 48 && eqb (length bs) 0) (some (pos 0))
+    (cond (eqb b 45) (signed minus (positive bs)) (signed pos (positive (b ∷ bs))))
 unfolding number
 number-cons b bs = refl
 

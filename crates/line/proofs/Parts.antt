@@ -93,7 +93,8 @@ module _ (sep : ℕ) where
   split-next [] = ap (λ (l : List (List ℕ)). [] ∷ l) (sym (parts-none [] (omega arith)))
   split-next (b ∷ bs) =
       ⊎-elim
-      (λ (e : eqb b sep ≡ true). split-yes sep b bs e ∙ rw (until-yes sep b bs e) (ap (λ (l : List (List ℕ)). [] ∷ l) (sym (parts-in (b ∷ bs) (omega arith)))))
+      (λ (e : eqb b sep ≡ true). split-yes sep b bs e
+      ∙ rw (until-yes sep b bs e) (ap (λ (l : List (List ℕ)). [] ∷ l) (sym (parts-in (b ∷ bs) (omega arith)))))
       (λ (e : eqb b sep ≡ false).
       let n = length (until sep bs) in
       let q : 1 + suc n ≡ suc (suc n) = omega arith in

@@ -40,7 +40,8 @@ unfolding rowLines
 rows-one len n m t = refl
 
 pub rows-more : (len n m start : ℕ) (t : List ℤ) → m < n
-    → rowLines len (n - m) m (drop start t) ≡ (shown (pos (m + 1)) ++ commas (take len (drop start t))) ++ rowLines len (n - (m + 1)) (m + 1) (drop (start + len) t)
+    → rowLines len (n - m) m (drop start t) ≡ (shown (pos (m + 1)) ++ commas (take len (drop start t)))
+    ++ rowLines len (n - (m + 1)) (m + 1) (drop (start + len) t)
 rows-more len n m start t h =
     let q : n - m ≡ suc (n - (m + 1)) = omega arith in
     let r : suc m ≡ m + 1 = omega arith in

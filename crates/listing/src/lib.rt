@@ -105,7 +105,8 @@ fn put_table(out: &mut [u8], block: &[i64], table: &[i64]) -> usize
 
 // A settled table: 288 words, which no accepted sheet goes past, are looked at.
 pub fn put_settled(out: &mut [u8], block: &[i64], table: &[i64]) -> usize
-    ensures { λ r. ⌜ Put (now (out .entry)) 0 (printedFor 0 (lentOf (now (block .entry))) (some (take 288 (now (table .entry))))) r (now (out .exit)) ⌝ }
+    ensures { λ r. ⌜ Put (now (out .entry)) 0 (printedFor 0 (lentOf (now (block .entry))) (some (take 288 (now (table .entry))))) r
+        (now (out .exit)) ⌝ }
 {
     if table.len() > 288 {
         return put_table(out, block, &table[..288]);

@@ -23,8 +23,10 @@ module _ (t : List ℤ) {o : Option (List ℤ)} where
 
   pub step-some : {v u : List ℤ} {b : Bool} → o ≡ some v → u ≡ v → sameWords u t ≡ b → (cond b S.Still S.Moved ≡ stepAnswer t o) × (u ≡ valueOr t o)
   unfolding stepAnswer valueOr
-  step-some e q d =
-      (ap (λ (b : Bool). cond b S.Still S.Moved) (sym d ∙ ap (λ (x : List ℤ). sameWords x t) q) ∙ ap (stepAnswer t) (sym e), q ∙ ap (valueOr t) (sym e))
+  step-some e q d = (
+    ap (λ (b : Bool). cond b S.Still S.Moved) (sym d ∙ ap (λ (x : List ℤ). sameWords x t) q) ∙ ap (stepAnswer t) (sym e),
+    q ∙ ap (valueOr t) (sym e),
+  )
 
 -- what the operation answers to a step
 unfoldable pub narrowing : Step → Narrowing

@@ -93,7 +93,8 @@ module _ (lent : Lent) (t : List ℤ) (table : Table lent t) (i : ℕ) (from : 1
   unfolding hasShape
   narrow-none e =
       narrow-is lent t i from table upto none (noPlace (λ p st.
-      let h = holds-setOf 32 (keepsShape lent t i) (st .shape) (member-ge-1 (shapeSet lent t i) (st .held)) (few (st .shape) (st .held)) ∙ stands-kept p st in
+      let h = holds-setOf 32 (keepsShape lent t i) (st .shape) (member-ge-1 (shapeSet lent t i) (st .held)) (few (st .shape) (st .held))
+      ∙ stands-kept p st in
       let g = set-ge-1 (pos (setOf 32 (keepsShape lent t i))) (st .shape) h in
       omega ints))
 

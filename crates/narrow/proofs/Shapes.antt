@@ -32,7 +32,8 @@ ahead-trans false a b c h k = ≤ℤ-trans h k
 -- a coordinate that is not strictly ahead is behind
 pub not-past : (flip : Bool) (y z : ℤ) → Within 1000000 y → within (past-from flip z) (past-to flip z) y ≡ false → Ahead flip z y
 not-past true y z n e = omega (ints, not-le {a = z +ℤ pos 1} {b = y} (λ h. clash (true-within h (omega ints)) e), lin (v z ⊕ v (pos 1)))
-not-past false y z n e = omega (ints, not-le {a = y} {b = z -ℤ pos 1} (λ h. clash (true-within {a = minus 2000000} (omega ints) h) e), lin (v z ⊖ v (pos 1)))
+not-past false y z n e =
+    omega (ints, not-le {a = y} {b = z -ℤ pos 1} (λ h. clash (true-within {a = minus 2000000} (omega ints) h) e), lin (v z ⊖ v (pos 1)))
 
 not-nowhere : (flip : Bool) (y : ℤ) → Within 1000000 y → Ahead flip (nowhere flip) y → ⊥
 not-nowhere true y n h = omega ints
@@ -118,5 +119,8 @@ module _ (lent : Lent) (t : List ℤ) (i : ℕ) where
         → End lent t i flip n d z → End lent t i flip (suc n) d z
     end-skip none-of x =
         ⊎-elim
-        (λ e. inl (record { ahead = λ p w. ⊎-elim (λ u. e .ahead p u) (λ u. absurd (none-of p (u .0) (u .1))) (last-shape n p w); reached = e .reached }))
+        (λ e. inl (record {
+          ahead = λ p w. ⊎-elim (λ u. e .ahead p u) (λ u. absurd (none-of p (u .0) (u .1))) (last-shape n p w);
+          reached = e .reached;
+        }))
         (λ u. inr (u .0, λ p w. ⊎-elim (λ o. u .1 p o) (λ o. none-of p (o .0) (o .1)) (last-shape n p w))) x

@@ -39,7 +39,8 @@ module _ (ends : List ℤ) (m : ℕ) (lo hi : ℤ) (long : length ends ≡ 8) (f
 
   others : (flip : Bool) (d : ℕ) → (d ≡ m → ⊥) → d < 4 → endAt flip d next ≡ endAt flip d ends
   others true d n l =
-      getD-set-other (set ends m lo) (4 + m) (4 + d) hi (pos 0) (λ q. n (omega arith)) ∙ getD-set-other ends m (4 + d) lo (pos 0) (λ q. absurd (omega arith))
+      getD-set-other (set ends m lo) (4 + m) (4 + d) hi (pos 0) (λ q. n (omega arith))
+      ∙ getD-set-other ends m (4 + d) lo (pos 0) (λ q. absurd (omega arith))
   others false d n l = getD-set-other (set ends m lo) (4 + m) d hi (pos 0) (λ q. absurd (omega arith)) ∙ getD-set-other ends m d lo (pos 0) n
 
   pub taken-more : {old p : List ℤ} → Taken m old p ends → lo ≡ minZ (word ends m) (word p m) → hi ≡ maxZ (word (set ends m lo) (4 + m)) (word p m)

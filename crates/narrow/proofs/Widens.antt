@@ -70,7 +70,8 @@ module _ (lent : Lent) (t : List ℤ) (i s : ℕ) (cut : Area) (box : CutBox len
 
     allowed-free : (p : List ℤ) → Allowed p → F p ≡ true → freeIn lent t i s area p ≡ true
     unfolding freeIn
-    allowed-free p a f = let u = and-true {a = inArea (axes lent) cut p} (cut-free lent t i s cut box p ∙ a) in true-and (cuts .is p ∙ true-and (u .0) f) (u .1)
+    allowed-free p a f =
+        let u = and-true {a = inArea (axes lent) cut p} (cut-free lent t i s cut box p ∙ a) in true-and (cuts .is p ∙ true-and (u .0) f) (u .1)
 
   -- the part that lies strictly ahead of z is searched
   module _ (area : Area) (flip : Bool) (z : ℤ) (d : ℕ) (near : (p : List ℤ) → Allowed p → Within 1000000 (word p d))

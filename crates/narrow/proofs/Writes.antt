@@ -42,7 +42,8 @@ module _ (now first : List ℤ) (at : ℕ) (w : ℤ) (l : at < length now) (fres
 replaced-front : (words new : List ℤ) (at : ℕ) (v : ℤ) → at < length words → set (replaced words (at + 1) new) at v ≡ replaced words at (v ∷ new)
 unfolding replaced
 replaced-front words new at v h =
-    ap (λ (l : List ℤ). set (l ++ (new ++ drop (at + 1 + length new) words)) at v) (ap (λ (n : ℕ). take n words) (add-one at) ∙ take-suc words at (pos 0) h)
+    ap (λ (l : List ℤ). set (l ++ (new ++ drop (at + 1 + length new) words)) at v)
+    (ap (λ (n : ℕ). take n words) (add-one at) ∙ take-suc words at (pos 0) h)
     ∙ ap (λ (l : List ℤ). set l at v) (append-assoc (take at words) (getD words at (pos 0) ∷ []) (new ++ drop (at + 1 + length new) words))
     ∙ set-at (take at words) (getD words at (pos 0)) (new ++ drop (at + 1 + length new) words) v at (length-take-le at words (omega arith))
     ∙ ap (λ (n : ℕ). take at words ++ (v ∷ (new ++ drop n words))) next
@@ -58,7 +59,8 @@ pub record Written (first : List ℤ) (at : ℕ) (new now : List ℤ) (moved : B
 pub written-none : (first : List ℤ) (at : ℕ) → Written first at [] first false
 written-none first at = record { is = sym (replaced-none first at); tells = ap not (sym (same-refl first)) }
 
-module _ {first now : List ℤ} {at : ℕ} {new : List ℤ} {moved : Bool} (w : Written first at new now moved) (fits : at + length new ≤ length first) where
+module _ {first now : List ℤ} {at : ℕ} {new : List ℤ} {moved : Bool} (w : Written first at new now moved)
+    (fits : at + length new ≤ length first) where
   pub length-written : length now ≡ length first
   length-written = ap length (w .is) ∙ length-replaced first at new fits
 
@@ -74,8 +76,10 @@ module _ {first now : List ℤ} {at : ℕ} {new : List ℤ} {moved : Bool} (w : 
     set-so = is ∙ ap (λ (u : List ℤ). set u p v) (w .is)
 
 -- one word more
-pub written-more : {first now : List ℤ} {at : ℕ} {new : List ℤ} {moved : Bool} → Written first at new now moved → (p : ℕ) (v : ℤ) {after : List ℤ} {told : Bool}
-    → p ≡ at + length new → p < length first → after ≡ set now p v → told ≡ (moved || not (eqZ (word now p) v)) → Written first at (new ++ (v ∷ [])) after told
+pub written-more : {first now : List ℤ} {at : ℕ} {new : List ℤ} {moved : Bool} → Written first at new now moved
+    → (p : ℕ) (v : ℤ) {after : List ℤ} {told : Bool}
+    → p ≡ at + length new → p < length first → after ≡ set now p v → told ≡ (moved || not (eqZ (word now p) v))
+    → Written first at (new ++ (v ∷ [])) after told
 written-more {first} {now} {at} {new} w p v e l is tells =
     let fits : at + length new ≤ length first = omega arith in
     let kept = replaced-after first at new fits p (omega arith) in
@@ -85,7 +89,8 @@ written-more {first} {now} {at} {new} w p v e l is tells =
     }
 
 -- the word before them
-pub written-front : {first now : List ℤ} {at : ℕ} {new : List ℤ} {moved : Bool} → Written first (at + 1) new now moved → (v : ℤ) {after : List ℤ} {told : Bool}
+pub written-front : {first now : List ℤ} {at : ℕ} {new : List ℤ} {moved : Bool} → Written first (at + 1) new now moved
+    → (v : ℤ) {after : List ℤ} {told : Bool}
     → at + 1 + length new ≤ length first → after ≡ set now at v → told ≡ (moved || not (eqZ (word now at) v)) → Written first at (v ∷ new) after told
 written-front {first} {now} {at} {new} w v fits is tells =
     let kept = replaced-before first (at + 1) new fits at (omega arith) in

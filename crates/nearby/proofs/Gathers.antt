@@ -24,7 +24,8 @@ use Rattle.sheet.proofs.Forbidden.{shapes-by, shapes-parts, set-by, forbidden-b
 use Rattle.region.specs.declared.Area.{Area}
 use Rattle.region.specs.Area.{inArea, InField}
 use Rattle.nearby.specs.Hull.{Hull, fourAt, HullTo}
-use Rattle.nearby.specs.Listing.{headLen, full, areaAt, entryAt, entryHolds, entryRule, entryRow, entryBox, SameTo, Entered, Ready, Sound, Rivals, Entry, Solid}
+use Rattle.nearby.specs.Listing.{headLen, full, areaAt, entryAt, entryHolds, entryRule, entryRow, entryBox, SameTo, Entered}
+use Rattle.nearby.specs.Listing.{Ready, Sound, Rivals, Entry, Solid}
 use Rattle.nearby.specs.Listing.{Met, Gathered, Open, Grows, Listed, rivalForbids, Opponent}
 use Rattle.nearby.proofs.Fours.{four-kept, hull-kept}
 use Rattle.nearby.proofs.Head.{index-kept, rules-kept}
@@ -60,7 +61,8 @@ module _ {at : ℕ} {l l' : List ℤ} (same : SameTo at l l') where
         (subst (λ (z : ℤ). Rivals lent t i s z (word l (entryAt e + 1)) (word l (entryAt e + 2))) (sym (same .words (entryAt e) (omega arith))) w))
 
     forbids-kept : (e b : ℕ) (p : List ℤ) → entryAt e + 11 ≤ at
-        → pairForbids lent t (entryRule l' e) p i b (entryRow l' e) (entryBox l' e) ≡ pairForbids lent t (entryRule l e) p i b (entryRow l e) (entryBox l e)
+        → pairForbids lent t (entryRule l' e) p i b (entryRow l' e) (entryBox l' e)
+        ≡ pairForbids lent t (entryRule l e) p i b (entryRow l e) (entryBox l e)
     forbids-kept e b p h =
         ap (λ (z : ℤ). pairForbids lent t (nat z) p i b (entryRow l' e) (entryBox l' e)) (same .words (entryAt e) (omega arith))
         ∙ ap (λ (z : ℤ). pairForbids lent t (entryRule l e) p i b (nat z) (entryBox l' e)) (same .words (entryAt e + 1) (omega arith))
@@ -287,7 +289,8 @@ module _ (lent : Lent) (t : List ℤ) (i s : ℕ) where
     grows-more g k = grows-skip g k (λ y p h q. absurd (omega (arith, h, q)))
 
 -- ---- rule r keeps row i apart from row j with the one shape s'
-module _ (lent : Lent) (t : List ℤ) {i : ℕ} (s : ℕ) {r j s' : ℕ} (rule : r < rules lent) (from : 1 ≤ j) (upto : j ≤ rows lent t) (o : Opponent lent t i r j s') where
+module _ (lent : Lent) (t : List ℤ) {i : ℕ} (s : ℕ) {r j s' : ℕ} (rule : r < rules lent) (from : 1 ≤ j) (upto : j ≤ rows lent t)
+    (o : Opponent lent t i r j s') where
   pub shape-forbids : (p : List ℤ) → shapesForbid lent t r p i s j s' ≡ true → forbidden lent t i s p ≡ true
   shape-forbids p e = forbidden-by lent t i s p (record {
     rule = r;

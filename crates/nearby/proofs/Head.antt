@@ -75,7 +75,8 @@ module _ {lent : Lent} {list : List ℤ} {b n : ℕ} (x : IndexFrom lent list (b
     (skips : (s c : ℕ) → 1 ≤ s → s ≤ 32 → isOf lent b s ≡ true → b < c → c < n → isOf lent c s ≡ false)
     (rest : (c : ℕ) → b < c → c < boxes lent → word list' c ≡ word list c)
     (heads : (s : ℕ) → 1 ≤ s → s ≤ 32
-    → ((word list' (firstAt s) ≡ pos b) × (isOf lent b s ≡ true)) ⊎ ((word list' (firstAt s) ≡ word list (firstAt s)) × (isOf lent b s ≡ false))) where
+    → ((word list' (firstAt s) ≡ pos b) × (isOf lent b s ≡ true))
+    ⊎ ((word list' (firstAt s) ≡ word list (firstAt s)) × (isOf lent b s ≡ false))) where
   -- a statement about each box from b on
   each : (P : ℕ → Type 0) → P b → ((c : ℕ) → b < c → P c) → (c : ℕ) → b ≤ c → P c
   each P p f c l = ⊎-elim (λ e. subst P e p) (f c) (eq-or-lt-of-le l)

@@ -22,7 +22,9 @@ use Rattle.integers.proofs.Ints.{ints, eqZ-eq, le-of-test, test-of-le, within-t
 use Rattle.integers.proofs.Machine.{within-test, within-pos, within-by, from-within}
 use Rattle.integers.proofs.Ranges.{nat-from}
 use Rattle.integers.proofs.Sets.{small-set, member-ge-1}
-use Rattle.sheet.specs.Layout.{Lent, dims, axes, boxes, rules, rowLen, shapeOf, offset, size, isOf, validBox, kind, isNonOverlap, isContainment, dimSet, rowSet, roomLow, roomHigh, namesDim, validEnds, validRule, rows, shapeSet, low, high, hasShape, validRow}
+use Rattle.sheet.specs.Layout.{Lent, dims, axes, boxes, rules, rowLen, shapeOf, offset, size, isOf, validBox, kind}
+use Rattle.sheet.specs.Layout.{isNonOverlap, isContainment, dimSet, rowSet, roomLow, roomHigh, namesDim, validEnds}
+use Rattle.sheet.specs.Layout.{validRule, rows, shapeSet, low, high, hasShape, validRow}
 use Rattle.sheet.specs.Refusal.{_when_, _else_, badHead, badCounts, badBlockLength, badTableLength, badBox, badRule, badRow, refusal}
 use Rattle.sheet.specs.Accepted.{Count, Head, Block, Rows, Boxed, Table}
 
@@ -90,7 +92,8 @@ module _ (lent : Lent) where
     where
       pick : (b : Bool)
           → cond b
-          (within (minus 1000000) (pos 1000000) (roomLow lent r d) && within (minus 1000000) (pos 1000000) (roomHigh lent r d) && leZ (roomLow lent r d) (roomHigh lent r d))
+          (within (minus 1000000) (pos 1000000) (roomLow lent r d) && within (minus 1000000) (pos 1000000) (roomHigh lent r d)
+          && leZ (roomLow lent r d) (roomHigh lent r d))
           (eqZ (roomLow lent r d) (pos 0) && eqZ (roomHigh lent r d) (pos 0)) ≡ true
           → Within 1000000 (roomLow lent r d) × Within 1000000 (roomHigh lent r d)
       pick true u = let a = and-true u in let b = and-true (a .0) in (within-test (b .0), within-test (b .1))

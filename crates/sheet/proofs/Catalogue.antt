@@ -20,7 +20,8 @@ use Rattle.sheet.specs.Allowed.{roomsHold, inRanges, forbidden, allowed}
 use Rattle.sheet.specs.Placement.{fixed, pointOf, good, boxesClear, noOverlap, noneOverlap, allContained, catalogueGood}
 use Rattle.sheet.specs.Refusal.{_when_, notFixed, refusal, refusalPlacement}
 use Rattle.sheet.proofs.Accepted.{when-zero, else-zero}
-use Rattle.sheet.proofs.Forbidden.{allowed-parts, allowed-by, ranges-by, Pair, shapes-by, shapes-parts, OneShape, set-by, set-parts, Forbids, forbidden-by, forbidden-parts}
+use Rattle.sheet.proofs.Forbidden.{allowed-parts, allowed-by, ranges-by, Pair, shapes-by, shapes-parts, OneShape, set-by}
+use Rattle.sheet.proofs.Forbidden.{set-parts, Forbids, forbidden-by, forbidden-parts}
 use Rattle.sheet.proofs.Fixed.{Row, still, only}
 use Rattle.sheet.proofs.Exchange.{at-point, pair-not-clear, boxes-clear-comm}
 
@@ -60,7 +61,8 @@ module _ (lent : Lent) (table : List ℤ) where
   allowed-point i s = hasShape lent table i s ⇒ allowed lent table i s (pointOf lent table i)
 
   abbrev shape-two : ℕ → ℕ → ℕ → ℕ → ℕ → Bool
-  shape-two r i j s s' = hasShape lent table j s' ⇒ allBelow (boxes lent) (λ b. isOf lent b s ⇒ allBelow (boxes lent) (λ c. isOf lent c s' ⇒ boxesClear lent table r i b j c))
+  shape-two r i j s s' = hasShape lent table j s'
+      ⇒ allBelow (boxes lent) (λ b. isOf lent b s ⇒ allBelow (boxes lent) (λ c. isOf lent c s' ⇒ boxesClear lent table r i b j c))
 
   abbrev shape-one : ℕ → ℕ → ℕ → ℕ → Bool
   shape-one r i j s = hasShape lent table i s ⇒ allUpTo 32 (shape-two r i j s)
@@ -69,7 +71,8 @@ module _ (lent : Lent) (table : List ℤ) where
   module _ (all-fixed : fixed lent table ≡ true) where
     -- ---- good: each row's point is allowed
     module _ (g : good lent table ≡ true) where
-      pub stands : (i s : ℕ) → Row lent table i → 1 ≤ s → s ≤ 32 → hasShape lent table i s ≡ true → allowed lent table i s (pointOf lent table i) ≡ true
+      pub stands : (i s : ℕ) → Row lent table i → 1 ≤ s → s ≤ 32 → hasShape lent table i s ≡ true
+          → allowed lent table i s (pointOf lent table i) ≡ true
       unfolding good
       stands i s h l u t =
           implies-true (upto-at (allowed-point i) (upto-at (λ i. allUpTo 32 (allowed-point i)) g i (h .from) (h .upto)) s l u) t
@@ -78,7 +81,8 @@ module _ (lent : Lent) (table : List ℤ) where
       apart r i j s s' b c less w = passes (λ e. clash (forbidden-by lent table i s (pointOf lent table i) (by e)) free)
         where
           free : forbidden lent table i s (pointOf lent table i) ≡ false
-          free = allowed-parts lent table i s (pointOf lent table i) (stands i s (w .first) (w .shape-first .0) (w .shape-first .1) (w .shape-first .2)) .2
+          free = allowed-parts lent table i s (pointOf lent table i)
+              (stands i s (w .first) (w .shape-first .0) (w .shape-first .1) (w .shape-first .2)) .2
 
           by : boxesClear lent table r i b j c ≡ false → Forbids lent table i s (pointOf lent table i)
           by e =
@@ -117,7 +121,8 @@ module _ (lent : Lent) (table : List ℤ) where
       to-catalogue =
           true-and
           (at-all (λ r hr. true-implies (λ kind.
-          at-upto (λ j. namesRow lent r j ⇒ allUpTo (rows lent table) (λ i. ltb i j && namesRow lent r i ⇒ noOverlap lent table r i j)) (λ j j1 jn. true-implies (λ nj.
+          at-upto (λ j. namesRow lent r j ⇒ allUpTo (rows lent table) (λ i. ltb i j && namesRow lent r i ⇒ noOverlap lent table r i j))
+          (λ j j1 jn. true-implies (λ nj.
           at-upto (λ i. ltb i j && namesRow lent r i ⇒ noOverlap lent table r i j) (λ i i1 iN. true-implies (λ e. let x = and-true {a = ltb i j} e in
           at-upto (shape-one r i j) (λ s s1 s32. true-implies (λ ti.
           at-upto (shape-two r i j s) (λ s' t1 t32. true-implies (λ tj.
@@ -149,21 +154,24 @@ module _ (lent : Lent) (table : List ℤ) where
       clear-pair r i j s s' b c less w =
           let pairs : ℕ → ℕ → ℕ → Bool = λ r j i. ltb i j && namesRow lent r i ⇒ noOverlap lent table r i j in
           let a = implies-true (all-at _ (parts .0) r (w .rule)) (w .kind) in
-          let b2 = implies-true (upto-at (λ j. namesRow lent r j ⇒ allUpTo (rows lent table) (pairs r j)) a j (w .second .from) (w .second .upto)) (w .names-second) in
+          let b2 = implies-true (upto-at (λ j. namesRow lent r j ⇒ allUpTo (rows lent table) (pairs r j)) a j (w .second .from) (w .second .upto))
+          (w .names-second) in
           let c2 = implies-true (upto-at (pairs r j) b2 i (w .first .from) (w .first .upto)) (true-and (lt-ltb i j less) (w .names-first)) in
           let d2 = implies-true (upto-at (shape-one r i j) c2 s (w .shape-first .0) (w .shape-first .1)) (w .shape-first .2) in
           let e2 = implies-true (upto-at (shape-two r i j s) d2 s' (w .shape-second .0) (w .shape-second .1)) (w .shape-second .2) in
           let f2 = implies-true (all-at _ e2 b (w .box-first .0)) (w .box-first .1) in
           implies-true (all-at _ f2 c (w .box-second .0)) (w .box-second .1)
 
-      contained-point : (i s : ℕ) → Row lent table i → 1 ≤ s → s ≤ 32 → hasShape lent table i s ≡ true → roomsHold lent i s (pointOf lent table i) ≡ true
+      contained-point : (i s : ℕ) → Row lent table i → 1 ≤ s → s ≤ 32 → hasShape lent table i s ≡ true
+          → roomsHold lent i s (pointOf lent table i) ≡ true
       unfolding allContained
       contained-point i s h l u t =
           implies-true (upto-at (contained i) (upto-at (λ i. allUpTo 32 (contained i)) (parts .1) i (h .from) (h .upto)) s l u) t
 
       free : (i s : ℕ) → Row lent table i → 1 ≤ s → s ≤ 32 → hasShape lent table i s ≡ true → Forbids lent table i s (pointOf lent table i) → ⊥
       unfolding hasShape hasOnly
-      free i s h l u t f = ⊎-elim (λ less. contra (clear-pair r i j s (o .shape) (q .own) (q .other) less two)) (λ more. later (below-or j i) more) (below-or i j)
+      free i s h l u t f =
+          ⊎-elim (λ less. contra (clear-pair r i j s (o .shape) (q .own) (q .other) less two)) (λ more. later (below-or j i) more) (below-or i j)
         where
           r : ℕ
           r = f .rule

@@ -11,8 +11,10 @@ use Rattle.integers.specs.Integer.{within}
 use Rattle.integers.specs.Below.{_⇒_}
 use Rattle.integers.specs.Words.{word}
 use Rattle.integers.proofs.Below.{all-same, any-same}
-use Rattle.sheet.specs.Layout.{Lent, axes, offset, size, isOf, isNonOverlap, isContainment, roomLow, roomHigh, namesDim, namesRow, low, high, hasShape, hasOnly}
-use Rattle.sheet.specs.Allowed.{boxContained, roomsHold, inRanges, forbidFrom, forbidTo, pairForbids, shapesForbid, setForbids, rowForbids, forbidden, allowed}
+use Rattle.sheet.specs.Layout.{Lent, axes, offset, size, isOf, isNonOverlap, isContainment, roomLow, roomHigh, namesDim}
+use Rattle.sheet.specs.Layout.{namesRow, low, high, hasShape, hasOnly}
+use Rattle.sheet.specs.Allowed.{boxContained, roomsHold, inRanges, forbidFrom, forbidTo, pairForbids, shapesForbid}
+use Rattle.sheet.specs.Allowed.{setForbids, rowForbids, forbidden, allowed}
 use Rattle.sheet.specs.Narrow.{rowAllowed}
 use Rattle.sheet.proofs.Forbidden.{axis}
 
@@ -29,7 +31,8 @@ module _ (lent : Lent) (table : List ℤ) where
     unfolding boxContained
     box-agree r b =
         all-same (λ d l.
-        ap (λ (z : ℤ). namesDim lent r d ⇒ leZ (roomLow lent r d) (z +ℤ offset lent b d) && leZ (z +ℤ offset lent b d +ℤ size lent b d) (roomHigh lent r d))
+        ap (λ (z : ℤ). namesDim lent r d ⇒ leZ (roomLow lent r d) (z +ℤ offset lent b d)
+        && leZ (z +ℤ offset lent b d +ℤ size lent b d) (roomHigh lent r d))
         (h d (axis lent l)))
 
     rooms-agree : (i s : ℕ) → roomsHold lent i s p ≡ roomsHold lent i s q

@@ -42,12 +42,14 @@ module _ (lent : Lent) (table : List ℤ) where
       → pairForbids lent table r (pointOf lent table i) i b j c ≡ not (boxesClear lent table r i b j c)
   unfolding pairForbids boxesClear
   pair-not-clear r i b j c still =
-      all-same (λ d h. ap (λ (x : Bool). namesDim lent r d ⇒ x) (not-clear r i b j c still d h) ∙ implies-not (namesDim lent r d) (clear lent table r i b j c d))
+      all-same (λ d h. ap (λ (x : Bool). namesDim lent r d ⇒ x) (not-clear r i b j c still d h)
+      ∙ implies-not (namesDim lent r d) (clear lent table r i b j c d))
       ∙ all-not (dims lent) (λ d. namesDim lent r d && clear lent table r i b j c d)
 
   clear-comm : (r i b j c d : ℕ) → clear lent table r i b j c d ≡ clear lent table r j c i b d
   unfolding clear
-  clear-comm r i b j c d = or-comm (leZ (boxEnd lent table j c d) (boxStart lent table i b d)) (leZ (boxEnd lent table i b d) (boxStart lent table j c d))
+  clear-comm r i b j c d =
+      or-comm (leZ (boxEnd lent table j c d) (boxStart lent table i b d)) (leZ (boxEnd lent table i b d) (boxStart lent table j c d))
 
   pub boxes-clear-comm : (r i b j c : ℕ) → boxesClear lent table r i b j c ≡ boxesClear lent table r j c i b
   unfolding boxesClear
@@ -70,4 +72,5 @@ module _ (lent : Lent) (table : List ℤ) where
   touching r i b j c d si sj h n e = (free, sym (exchange r i b j c si sj) ∙ free)
     where
       free : pairForbids lent table r (pointOf lent table i) i b j c ≡ false
-      free = pair-not-clear r i b j c sj ∙ ap not (any-true (λ d. namesDim lent r d && clear lent table r i b j c d) d h (true-and n (touching-clear r i b j c d e)))
+      free = pair-not-clear r i b j c sj
+          ∙ ap not (any-true (λ d. namesDim lent r d && clear lent table r i b j c d) d h (true-and n (touching-clear r i b j c d e)))

@@ -13,7 +13,8 @@ use Rattle.integers.proofs.Booleans.{and-true, true-and, implies-true, true-imp
 use Rattle.integers.proofs.Below.{all-at, at-all, any-at, any-true, some-upto, upto-some}
 use Rattle.integers.proofs.Ints.{within-true, true-within}
 use Rattle.sheet.specs.Layout.{Lent, dims, axes, boxes, rules, isOf, isNonOverlap, namesDim, namesRow, rows, low, high, hasOnly}
-use Rattle.sheet.specs.Allowed.{roomsHold, inRanges, forbidFrom, forbidTo, pairForbids, shapesForbid, setForbids, rowForbids, forbidden, allowed}
+use Rattle.sheet.specs.Allowed.{roomsHold, inRanges, forbidFrom, forbidTo, pairForbids, shapesForbid, setForbids}
+use Rattle.sheet.specs.Allowed.{rowForbids, forbidden, allowed}
 
 -- every dimension of a box is an axis
 pub axis : (lent : Lent) {d : ℕ} → d < dims lent → d < axes lent
@@ -92,7 +93,8 @@ module _ (lent : Lent) (table : List ℤ) where
 
   pub set-by : (r i s j : ℕ) (p : List ℤ) → OneShape r p i s j → setForbids lent table r p i s j ≡ true
   unfolding setForbids
-  set-by r i s j p f = upto-some (λ x. hasOnly lent table j x && shapesForbid lent table r p i s j x) (f .shape) (f .from) (f .upto) (true-and (f .only) (f .forbids))
+  set-by r i s j p f =
+      upto-some (λ x. hasOnly lent table j x && shapesForbid lent table r p i s j x) (f .shape) (f .from) (f .upto) (true-and (f .only) (f .forbids))
 
   pub set-parts : (r i s j : ℕ) (p : List ℤ) → setForbids lent table r p i s j ≡ true → OneShape r p i s j
   unfolding setForbids
@@ -118,7 +120,8 @@ module _ (lent : Lent) (table : List ℤ) where
   unfolding forbidden rowForbids
   forbidden-by i s p f =
       any-true _ (f .rule) (f .rule-below) (true-and (true-and (f .kind) (f .names))
-      (upto-some (rowForbids lent table (f .rule) p i s) (f .other) (f .from) (f .upto) (true-and (true-and (ap not (ne-eqb i (f .other) (f .another))) (f .names-other)) (f .set))))
+      (upto-some (rowForbids lent table (f .rule) p i s) (f .other) (f .from) (f .upto)
+      (true-and (true-and (ap not (ne-eqb i (f .other) (f .another))) (f .names-other)) (f .set))))
 
   pub forbidden-parts : (i s : ℕ) (p : List ℤ) → forbidden lent table i s p ≡ true → Forbids i s p
   unfolding forbidden rowForbids

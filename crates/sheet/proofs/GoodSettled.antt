@@ -63,10 +63,12 @@ module _ (lent : Lent) (table : List ℤ) (all-fixed : fixed lent table ≡ true
   settled-good st =
       at-upto (λ i. allUpTo 32 (allowed-point i)) (λ i h k. at-upto (allowed-point i) (λ s h32 k32. true-implies (λ e.
       let w = st .shapes i s h k e in
-      sym (allowed-agree lent table (w .0) (pointOf lent table i) (λ d l. only-point i (record { from = h; upto = k }) s (w .0) (w .1) d l) i s) ∙ w .1)))
+      sym (allowed-agree lent table (w .0) (pointOf lent table i) (λ d l. only-point i (record { from = h; upto = k }) s (w .0) (w .1) d l) i s)
+      ∙ w .1)))
     where
       -- every allowed point of a fixed row is its origin
-      only-point : (i : ℕ) → Row lent table i → (s : ℕ) (p : List ℤ) → allowed lent table i s p ≡ true → (d : ℕ) → d < axes lent → word p d ≡ word (pointOf lent table i) d
+      only-point : (i : ℕ) → Row lent table i → (s : ℕ) (p : List ℤ) → allowed lent table i s p ≡ true → (d : ℕ) → d < axes lent
+          → word p d ≡ word (pointOf lent table i) d
       only-point i row s p e d l =
           let r = in-range lent table i d p (allowed-parts lent table i s p e .0) l in
           let f = still lent table all-fixed i row d l in

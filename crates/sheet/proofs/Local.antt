@@ -18,7 +18,8 @@ use Rattle.sheet.specs.Allowed.{inRanges, forbidFrom, forbidTo, setForbi
 use Rattle.sheet.specs.Narrow.{Stands, Narrowed, Narrows, narrowed, narrowOf}
 use Rattle.sheet.specs.Accepted.{Table}
 use Rattle.sheet.proofs.Accepted.{rows-same}
-use Rattle.sheet.proofs.Forbidden.{axis, allowed-parts, allowed-by, in-range, ranges-by, pair-at, pair-by, shapes-parts, shapes-by, set-parts, set-by, Forbids, forbidden-parts, forbidden-by}
+use Rattle.sheet.proofs.Forbidden.{axis, allowed-parts, allowed-by, in-range, ranges-by, pair-at, pair-by, shapes-parts}
+use Rattle.sheet.proofs.Forbidden.{shapes-by, set-parts, set-by, Forbids, forbidden-parts, forbidden-by}
 use Rattle.sheet.proofs.Rows.{set-other, low-other, high-other}
 use Rattle.sheet.proofs.Narrows.{narrow-finds}
 use Rattle.sheet.proofs.NarrowsOnce.{narrow-is}

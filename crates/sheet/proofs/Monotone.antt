@@ -13,7 +13,8 @@ use Rattle.sheet.specs.Layout.{Lent, dims, offset, size, rows, shapeSet,
 use Rattle.sheet.specs.Allowed.{inRanges, forbidFrom, forbidTo, pairForbids, setForbids, forbidden, allowed}
 use Rattle.sheet.specs.Settle.{Inside}
 use Rattle.sheet.proofs.Accepted.{rows-same}
-use Rattle.sheet.proofs.Forbidden.{axis, allowed-parts, allowed-by, in-range, ranges-by, pair-at, pair-by, shapes-parts, shapes-by, set-parts, set-by, forbidden-parts, forbidden-by}
+use Rattle.sheet.proofs.Forbidden.{axis, allowed-parts, allowed-by, in-range, ranges-by, pair-at, pair-by, shapes-parts}
+use Rattle.sheet.proofs.Forbidden.{shapes-by, set-parts, set-by, forbidden-parts, forbidden-by}
 
 module _ (lent : Lent) (u t : List ℤ) (inside : Inside lent u t)
     (alive : (j : ℕ) → 1 ≤ j → j ≤ rows lent t → (s : ℕ) × (hasShape lent u j s ≡ true)) where

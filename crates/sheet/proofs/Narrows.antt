@@ -17,11 +17,13 @@ use Rattle.integers.specs.Words.{word, pairsBelow, replaced}
 use Rattle.integers.proofs.Booleans.{clash, decide, and-true, true-and}
 use Rattle.integers.proofs.Below.{some-upto, upto-some}
 use Rattle.integers.proofs.Sets.{member-ge-1, small-set, holds-setOf, setOf-holds}
-use Rattle.integers.proofs.Lists.{length-pairsBelow, pairsBelow-first, pairsBelow-second, length-replaced, replaced-before, replaced-in, replaced-after}
+use Rattle.integers.proofs.Lists.{length-pairsBelow, pairsBelow-first, pairsBelow-second, length-replaced, replaced-before}
+use Rattle.integers.proofs.Lists.{replaced-in, replaced-after}
 use Rattle.sheet.specs.Layout.{Lent, axes, rowLen, rowAt, rows, shapeSet, low, high, hasShape}
 use Rattle.sheet.specs.Allowed.{inRanges, allowed}
 use Rattle.sheet.specs.Bounds.{Extreme, nowhere, there, somePoint}
-use Rattle.sheet.specs.Narrow.{Stands, Reached, Narrowed, Narrows, noPlace, narrowed, rowAllowed, keepsShape, narrowLow, narrowHigh, narrowRow, narrowOf}
+use Rattle.sheet.specs.Narrow.{Stands, Reached, Narrowed, Narrows, noPlace, narrowed, rowAllowed, keepsShape, narrowLow}
+use Rattle.sheet.specs.Narrow.{narrowHigh, narrowRow, narrowOf}
 use Rattle.sheet.specs.Accepted.{Table}
 use Rattle.sheet.proofs.Forbidden.{allowed-parts}
 use Rattle.sheet.proofs.Coordinates.{allowed-agree, row-allowed-agree}
@@ -51,7 +53,8 @@ module _ (lent : Lent) (t : List ℤ) (table : Table lent t) (i : ℕ) (from : 1
 
   pub row-allowed-by : (p : List ℤ) → Stands lent t i p → rowAllowed lent t i p ≡ true
   unfolding rowAllowed
-  row-allowed-by p w = upto-some (shape-allowed p) (w .shape) (numbered (w .shape) (w .held)) (small (w .shape) (w .held)) (true-and (w .held) (w .stands))
+  row-allowed-by p w =
+      upto-some (shape-allowed p) (w .shape) (numbered (w .shape) (w .held)) (small (w .shape) (w .held)) (true-and (w .held) (w .stands))
 
   pub row-allowed-parts : (p : List ℤ) → rowAllowed lent t i p ≡ true → Stands lent t i p
   unfolding rowAllowed
@@ -145,7 +148,8 @@ module _ (lent : Lent) (t : List ℤ) (table : Table lent t) (i : ℕ) (from : 1
   stays-shape s w =
       ap (λ (z : ℤ). holds z s) new-set
       ∙ holds-setOf 32 (keepsShape lent t i) s (numbered s (w .0)) (small s (w .0))
-      ∙ true-and (w .0) (met lent t i (allowed lent t i s) (λ p q h. allowed-agree lent t p q h i s) (w .1 .0) (allowed-parts lent t i s (w .1 .0) (w .1 .1) .0) (w .1 .1))
+      ∙ true-and (w .0) (met lent t i (allowed lent t i s) (λ p q h. allowed-agree lent t p q h i s) (w .1 .0)
+      (allowed-parts lent t i s (w .1 .0) (w .1 .1) .0) (w .1 .1))
 
   narrowed-after : (p : List ℤ) → Stands lent t i p → Narrowed lent t i after
   narrowed-after p st =
@@ -169,13 +173,15 @@ module _ (lent : Lent) (t : List ℤ) (table : Table lent t) (i : ℕ) (from : 1
   unfolding narrowOf
   narrow-finds = ⊎-elim some-point no-point (decide (somePoint lent t i (rowAllowed lent t i)))
     where
-      some-point : somePoint lent t i (rowAllowed lent t i) ≡ true → Narrows lent t i (cond (somePoint lent t i (rowAllowed lent t i)) (some after) none)
+      some-point : somePoint lent t i (rowAllowed lent t i) ≡ true
+          → Narrows lent t i (cond (somePoint lent t i (rowAllowed lent t i)) (some after) none)
       some-point e =
           let q = found lent t i (rowAllowed lent t i) e in
           let st = row-allowed-parts (q .0) (q .1) in
           subst⁻¹ (λ (x : Bool). Narrows lent t i (cond x (some after) none)) e (narrowed (q .0) st (narrowed-after (q .0) st))
 
-      no-point : somePoint lent t i (rowAllowed lent t i) ≡ false → Narrows lent t i (cond (somePoint lent t i (rowAllowed lent t i)) (some after) none)
+      no-point : somePoint lent t i (rowAllowed lent t i) ≡ false
+          → Narrows lent t i (cond (somePoint lent t i (rowAllowed lent t i)) (some after) none)
       no-point e =
           subst⁻¹ (λ (x : Bool). Narrows lent t i (cond x (some after) none)) e
           (noPlace (λ p st. clash (met lent t i (rowAllowed lent t i) agree p (ranged p (row-allowed-by p st)) (row-allowed-by p st)) e))

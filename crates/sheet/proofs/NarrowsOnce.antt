@@ -58,7 +58,8 @@ module _ (lent : Lent) (t : List ℤ) (i : ℕ) (from : 1 ≤ i) where
   narrows-unique whole none none x y = refl
   narrows-unique whole none (some w) (noPlace f) (narrowed p st n) = absurd (f p st)
   narrows-unique whole (some v) none (narrowed p st n) (noPlace f) = absurd (f p st)
-  narrows-unique whole (some v) (some w) (narrowed p st a) (narrowed q su b) = ap some (one-table p st v w a b (rows-again lent v t (a .as-long) whole))
+  narrows-unique whole (some v) (some w) (narrowed p st a) (narrowed q su b) =
+      ap some (one-table p st v w a b (rows-again lent v t (a .as-long) whole))
 
   pub narrow-is : Table lent t → i ≤ rows lent t → (o : Option (List ℤ)) → Narrows lent t i o → narrowOf lent t i ≡ o
   narrow-is table upto o x = narrows-unique (table .whole) (narrowOf lent t i) o (narrow-finds lent t table i from upto) x

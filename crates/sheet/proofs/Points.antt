@@ -65,7 +65,8 @@ module _ (lent : Lent) (table : List ℤ) (i : ℕ) where
   met-from f q zero p r e = e
   met-from f q (suc m) p r e =
       let h = r m (omega arith) in
-      any-true (λ c. pointFrom lent table i f m ((low lent table i m +ℤ pos c) ∷ p)) (nat (word q m -ℤ low lent table i m)) (count-below (h .0) (h .1))
+      any-true (λ c. pointFrom lent table i f m ((low lent table i m +ℤ pos c) ∷ p)) (nat (word q m -ℤ low lent table i m))
+      (count-below (h .0) (h .1))
       (ap (λ (z : ℤ). pointFrom lent table i f m (z ∷ p)) (count (h .0)) ∙ met-from f q m (word q m ∷ p) (λ d l. r d (omega arith)) e)
 
   pub met : (f : List ℤ → Bool) → Respects f → (q : List ℤ) → inRanges lent table i q ≡ true → f q ≡ true → somePoint lent table i f ≡ true

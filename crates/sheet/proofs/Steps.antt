@@ -74,7 +74,8 @@ module _ (lent : Lent) where
               (λ q ne h e. sym (shape-other lent t v i from (n .others) q s h ne) ∙ e) q h;
         }
 
-    pub narrowed-table : (p : List ℤ) → Stands lent t i p → (table : Table lent t) → ((j : ℕ) → 1 ≤ j → j ≤ rows lent t → (s : ℕ) × (hasShape lent t j s ≡ true)) → Table lent v
+    pub narrowed-table : (p : List ℤ) → Stands lent t i p → (table : Table lent t)
+        → ((j : ℕ) → 1 ≤ j → j ≤ rows lent t → (s : ℕ) × (hasShape lent t j s ≡ true)) → Table lent v
     narrowed-table p st table living = inside-table lent v t table narrowed-inside kept ordered
       where
         kept : (j : ℕ) → 1 ≤ j → j ≤ rows lent t → (s : ℕ) × (hasShape lent v j s ≡ true)
@@ -101,11 +102,13 @@ module _ (lent : Lent) where
           lows = λ q d h k l. each (λ (q : ℕ). 1 ≤ q → q ≤ rows lent t → low lent v q d ≤ℤ low lent u q d)
               (λ h k. let r = s .lows i d h (rows-of dims u t s x i k) l in
               subst (λ (z : ℤ). low lent v i d ≤ℤ z) (r .there) (n .bounds (r .point) (stands-outside dims u t s x i (r .point) h k (r .by)) d l .0))
-              (λ q ne h k. subst⁻¹ (λ (z : ℤ). z ≤ℤ low lent u q d) (low-other lent t v i from (n .others) q d h ne l) (x .lows q d h k l)) q h (row-of q k);
+              (λ q ne h k. subst⁻¹ (λ (z : ℤ). z ≤ℤ low lent u q d) (low-other lent t v i from (n .others) q d h ne l) (x .lows q d h k l)) q h
+              (row-of q k);
           highs = λ q d h k l. each (λ (q : ℕ). 1 ≤ q → q ≤ rows lent t → high lent u q d ≤ℤ high lent v q d)
               (λ h k. let r = s .highs i d h (rows-of dims u t s x i k) l in
               subst (λ (z : ℤ). z ≤ℤ high lent v i d) (r .there) (n .bounds (r .point) (stands-outside dims u t s x i (r .point) h k (r .by)) d l .1))
-              (λ q ne h k. subst⁻¹ (λ (z : ℤ). high lent u q d ≤ℤ z) (high-other lent t v i from (n .others) q d h ne l) (x .highs q d h k l)) q h (row-of q k);
+              (λ q ne h k. subst⁻¹ (λ (z : ℤ). high lent u q d ≤ℤ z) (high-other lent t v i from (n .others) q d h ne l) (x .highs q d h k l)) q h
+              (row-of q k);
           shapes = λ q j h k. each (λ (q : ℕ). 1 ≤ q → q ≤ rows lent t → hasShape lent u q j ≡ true → hasShape lent v q j ≡ true)
               (λ h k e.
               let a = s .shapes i j h (rows-of dims u t s x i k) e in

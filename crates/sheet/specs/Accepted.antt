@@ -9,7 +9,8 @@ use lib.IntN.{ℤ, pos}
 use lib.Signed.{_≤ℤ_}
 use Rattle.integers.specs.Integer.{Within}
 use Rattle.integers.specs.Words.{word}
-use Rattle.sheet.specs.Layout.{Lent, dims, axes, boxes, rules, blockLen, rowLen, shapeOf, offset, size, isOf, kind, dimSet, rowSet, roomLow, roomHigh, rows, shapeSet, low, high, hasShape}
+use Rattle.sheet.specs.Layout.{Lent, dims, axes, boxes, rules, blockLen, rowLen, shapeOf, offset, size, isOf, kind, dimSet}
+use Rattle.sheet.specs.Layout.{rowSet, roomLow, roomHigh, rows, shapeSet, low, high, hasShape}
 
 -- a word that is a count, an index or a set
 pub record Count (z : ℤ) : Type 0 where

@@ -10,7 +10,8 @@ use lib.Signed.{leZ}
 use Rattle.integers.specs.Integer.{within}
 use Rattle.integers.specs.Below.{_⇒_, allBelow, anyBelow, anyUpTo}
 use Rattle.integers.specs.Words.{word}
-use Rattle.sheet.specs.Layout.{Lent, dims, boxes, rules, axes, offset, size, isOf, isNonOverlap, isContainment, roomLow, roomHigh, namesDim, namesRow, rows, low, high, hasOnly}
+use Rattle.sheet.specs.Layout.{Lent, dims, boxes, rules, axes, offset, size, isOf, isNonOverlap, isContainment, roomLow}
+use Rattle.sheet.specs.Layout.{roomHigh, namesDim, namesRow, rows, low, high, hasOnly}
 
 module _ (lent : Lent) where
   -- ---- rooms (kind 2)

@@ -14,5 +14,7 @@ use Rattle.sheet.specs.Refusal.{refusing}
 use Rattle.sheet.specs.Text.{reading-and-printing}
 
 unfoldable pub computing : Unit {0}
-unfolding eqZ within width _⇒_ allBelow anyBelow sumBelow leastBelow greatestBelow valueOr bitAt bit holds holdsOnly setOf listBelow pairsBelow replaced sameWords bind pass rounds settleBy layout allowing placing bounding narrowing settling refusing reading-and-printing
+unfolding eqZ within width _⇒_ allBelow anyBelow sumBelow leastBelow greatestBelow valueOr bitAt bit holds holdsOnly setOf
+    listBelow pairsBelow replaced sameWords bind pass rounds settleBy layout allowing placing bounding narrowing settling refusing
+    reading-and-printing
 computing = tt

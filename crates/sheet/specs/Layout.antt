@@ -160,5 +160,7 @@ module _ (lent : Lent) where
 
 -- one name that opens every definition above: `unfolding layout`
 unfoldable pub layout : Unit {0}
-unfolding dims boxes rules axes boxLen ruleLen rowLen blockLen boxAt ruleAt rowAt shapeOf offset size isOf validBox kind isNonOverlap isContainment dimSet rowSet roomLow roomHigh namesDim namesRow validEnds validRule rows shapeSet low high hasShape hasOnly validRow
+unfolding dims boxes rules axes boxLen ruleLen rowLen blockLen boxAt ruleAt rowAt shapeOf offset size isOf validBox kind
+    isNonOverlap isContainment dimSet rowSet roomLow roomHigh namesDim namesRow validEnds validRule rows shapeSet low high
+    hasShape hasOnly validRow
 layout = tt

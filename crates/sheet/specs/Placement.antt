@@ -10,7 +10,8 @@ use lib.Signed.{leZ}
 use Rattle.integers.specs.Integer.{eqZ}
 use Rattle.integers.specs.Below.{_⇒_, allBelow, anyBelow, allUpTo, anyUpTo}
 use Rattle.integers.specs.Words.{listBelow}
-use Rattle.sheet.specs.Layout.{Lent, dims, boxes, rules, axes, offset, size, isOf, isNonOverlap, namesDim, namesRow, rows, low, high, hasShape, hasOnly}
+use Rattle.sheet.specs.Layout.{Lent, dims, boxes, rules, axes, offset, size, isOf, isNonOverlap, namesDim, namesRow, rows}
+use Rattle.sheet.specs.Layout.{low, high, hasShape, hasOnly}
 use Rattle.sheet.specs.Allowed.{roomsHold, allowed}
 
 module _ (lent : Lent) (table : List ℤ) where

@@ -197,5 +197,6 @@ positions =
 
 -- THE MARKED POSITIONS: the checker computes that every case passes
 pub positions-pass : T (allPass positions)
-unfolding computing sameTable sameNumber sameTruth forbidsOnly countRanges countRows placementsBy answered passes allPass words row row2 boxesFrom line room ab abRows threeRows textSheet catalogue placed positions
+unfolding computing sameTable sameNumber sameTruth forbidsOnly countRanges countRows placementsBy answered passes allPass words
+    row row2 boxesFrom line room ab abRows threeRows textSheet catalogue placed positions
 positions-pass = tt

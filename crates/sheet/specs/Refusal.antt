@@ -112,5 +112,6 @@ module _ (lent : Lent) where
 
 -- one name that opens every definition above: `unfolding refusing`
 unfoldable pub refusing : Unit {0}
-unfolding _when_ _else_ badHead badCounts badBlockLength badBox badTableLength badRule badRow noSuchRow noSuchShape noSuchDim notFixed refusal refusalRow refusalShape refusalDim refusalPlacement sliceUnless rowSlice startUnless rowStart
+unfolding _when_ _else_ badHead badCounts badBlockLength badBox badTableLength badRule badRow noSuchRow noSuchShape noSuchDim
+    notFixed refusal refusalRow refusalShape refusalDim refusalPlacement sliceUnless rowSlice startUnless rowStart
 refusing = tt

@@ -199,5 +199,7 @@ printed text =
 
 -- one name that opens every definition above: `unfolding reading-and-printing`
 unfoldable pub reading-and-printing : Unit {0}
-unfolding ascii joinHead split digitsFrom positive signed number cons numbers fieldsOf line addLine linesOf ended records afterK readLines readText refusalRead refusalText sheetUnless sheetRead padded reading decimal shown commas rowLines printedFor printed
+unfolding ascii joinHead split digitsFrom positive signed number cons numbers fieldsOf line addLine linesOf ended records afterK
+    readLines readText refusalRead refusalText sheetUnless sheetRead padded reading decimal shown commas rowLines printedFor
+    printed
 reading-and-printing = tt

@@ -97,7 +97,8 @@ refusal-some text w e = rw e
 pub parsed-long : (o : Option Sheet) (p : Parsed) → p ≡ parsedOf o → (length (p .block) ≡ 1507) × (length (p .table) ≡ 288)
 unfolding parsedOf
 parsed-long none p e = (ap (λ (x : Parsed). length (x .block)) e ∙ length-zeros 1507, ap (λ (x : Parsed). length (x .table)) e ∙ length-zeros 288)
-parsed-long (some w) p e = (ap (λ (x : Parsed). length (x .block)) e ∙ length-placed 1507 _, ap (λ (x : Parsed). length (x .table)) e ∙ length-placed 288 _)
+parsed-long (some w) p e =
+    (ap (λ (x : Parsed). length (x .block)) e ∙ length-placed 1507 _, ap (λ (x : Parsed). length (x .table)) e ∙ length-placed 288 _)
 
 module _ (text : List ℕ) (p : Parsed) (e : p ≡ parsedOf (readText text)) where
   pub read-none : p .formed ≡ false → refusedBy (pos 1) ≡ readingOf (reading text)
@@ -120,7 +121,8 @@ module _ (text : List ℕ) (p : Parsed) (e : p ≡ parsedOf (readText text)) whe
       block-back = ap (take (p .«block_len»)) (words .block) ∙ take-placed 1507 (words .sheet .block) (words .blockLen) l
 
       -- g is what the code's check has found
-      pub read-rows : 288 < p .«table_len» → {g : ℤ} → g ≡ pos (refusal (lentOf (take (p .«block_len») (p .block))) []) → refusedBy g ≡ readingOf (reading text)
+      pub read-rows : 288 < p .«table_len» → {g : ℤ} → g ≡ pos (refusal (lentOf (take (p .«block_len») (p .block))) [])
+          → refusedBy g ≡ readingOf (reading text)
       read-rows m {g} f =
           let lent = lentOf (words .sheet .block) in
           let long : 288 < length (words .sheet .table) = (let k = words .tableLen in omega arith) in
@@ -144,7 +146,8 @@ module _ (text : List ℕ) (p : Parsed) (e : p ≡ parsedOf (readText text)) whe
         read-refused {g} f k = ap refusedBy f ∙ reading-refused text same k
 
         pub read-accepted : found ≡ 0
-            → record { refusal = pos 0; block = p .block; «block_len» = p .«block_len»; table = p .table; «table_len» = p .«table_len» } ≡ readingOf (reading text)
+            → record { refusal = pos 0; block = p .block; «block_len» = p .«block_len»; table = p .table; «table_len» = p .«table_len» }
+            ≡ readingOf (reading text)
         read-accepted k =
             let w = words .sheet in
             reading-accepted text w (words .is) (sym refusal-is ∙ same ∙ k)

@@ -30,7 +30,8 @@ whole : (c : tie.Else4) → let a = c .before .before .before .before .before .b
     Rows (lentOf (now (a .block))) (now (a .table))
 whole c = rows-by _ _ (sym (c .before .bad-table-length .ensures) ∙ c .if4 .left)
 
-box-passed : (c : tie.Else5) → badBox (lentOf (now (c .before .before .before .before .before .before .before .before .before .before .args .block))) ≡ false
+box-passed : (c : tie.Else5)
+    → badBox (lentOf (now (c .before .before .before .before .before .before .before .before .before .before .args .block))) ≡ false
 box-passed c = sym (c .before .bad-box .ensures) ∙ c .if5 .left
 
 -- and what they leave of the refusal

@@ -53,7 +53,8 @@ module _ (e : tie.Else1) where
   dim-is = cast-nat (top .args .dimension) (top .fits .dimension .sfits) (asks .dim-in)
 
 found : (x : tie.After-extreme) → let e = x .before .before .before .before .before .before in
-    coordinate (x .extreme .result) ≡ extremeOf (top e .args .flip) (lent e) (t e) (nat (top e .args .row)) (nat (top e .args .shape)) (nat (top e .args .dimension))
+    coordinate (x .extreme .result)
+    ≡ extremeOf (top e .args .flip) (lent e) (t e) (nat (top e .args .row)) (nat (top e .args .shape)) (nat (top e .args .dimension))
 found x =
     let r = x .before .before .before .before .before in
     let e = r .before in
@@ -118,7 +119,8 @@ returns-2 : tie.Need-returns-2
 returns-2 c =
     let x = c .before .before .before .before in
     let f : SFits w64 (c .before .z .given .0 .0) = search needs in
-    ap B.At (toZ-ofZ f) ∙ answer-at (c .before .z .given .0 .0) (no-refusal (x .before .before .before .before .before .before)) (ap coordinate (sym (c .before .z .given .1)) ∙ found x)
+    ap B.At (toZ-ofZ f) ∙ answer-at (c .before .z .given .0 .0) (no-refusal (x .before .before .before .before .before .before))
+    (ap coordinate (sym (c .before .z .given .1)) ∙ found x)
 
 returns-3 : tie.Need-returns-3
 returns-3 c =

@@ -41,8 +41,10 @@ returns c =
     let cut = c .before .before .before in
     let s = cut .before .before in
     found-none
-    ∙ cut-empty (lentOf (s .args .block .now)) (s .args .table .now) (s .args .i .number) (s .args .s) (cut .cut-box .result) (cut .cut-box .ensures) (s .args .flip) (s .args .d) (s .pre .3)
-    (ap (λ (n : ℕ). inArea n (cut .cut-box .result) (cut .cut-box .result .low)) (sym (cut .before .axes-of .ensures)) ∙ sym (c .before .holds .ensures) ∙ not-true _ (c .if1 .taken))
+    ∙ cut-empty (lentOf (s .args .block .now)) (s .args .table .now) (s .args .i .number) (s .args .s) (cut .cut-box .result) (cut .cut-box .ensures)
+    (s .args .flip) (s .args .d) (s .pre .3)
+    (ap (λ (n : ℕ). inArea n (cut .cut-box .result) (cut .cut-box .result .low)) (sym (cut .before .axes-of .ensures))
+    ∙ sym (c .before .holds .ensures) ∙ not-true _ (c .if1 .taken))
 
 gather-requires : tie.Need-gather-requires
 gather-requires c κs = search needs
@@ -58,7 +60,8 @@ search-requires c κs =
       s .pre .2,
       s .pre .3,
       cut .cut-box .ensures .small,
-      ap (λ (n : ℕ). inArea n (cut .cut-box .result) (cut .cut-box .result .low)) (sym (cut .before .axes-of .ensures)) ∙ sym (e .before .holds .ensures) ∙ not-false _ (e .if1 .left),
+      ap (λ (n : ℕ). inArea n (cut .cut-box .result) (cut .cut-box .result .low)) (sym (cut .before .axes-of .ensures))
+          ∙ sym (e .before .holds .ensures) ∙ not-false _ (e .if1 .left),
       g .gather .ensures .0,
       g .gather .ensures .1,
     )
@@ -71,10 +74,13 @@ module _ (c : tie.After-search) where
   abbrev s : tie.Start
   s = c .before .before .before .before .before .before .before .before .before .before
 
-  allowed-extreme : (o : Option ℤ) → Extreme (Ahead (s .args .flip)) (freeIn (lentOf (s .args .block .now)) (s .args .table .now) (s .args .i .number) (s .args .s) (cut .cut-box .result)) (s .args .d) o
+  allowed-extreme : (o : Option ℤ)
+      → Extreme (Ahead (s .args .flip))
+      (freeIn (lentOf (s .args .block .now)) (s .args .table .now) (s .args .i .number) (s .args .s) (cut .cut-box .result)) (s .args .d) o
       → o ≡ extremeOf (s .args .flip) (lentOf (s .args .block .now)) (s .args .table .now) (s .args .i .number) (s .args .s) (s .args .d)
   allowed-extreme =
-      cut-extreme (lentOf (s .args .block .now)) (s .args .table .now) (s .args .i .number) (s .args .s) (cut .cut-box .result) (cut .cut-box .ensures) (s .args .flip) (s .args .d) (s .pre .3)
+      cut-extreme (lentOf (s .args .block .now)) (s .args .table .now) (s .args .i .number) (s .args .s) (cut .cut-box .result)
+      (cut .cut-box .ensures) (s .args .flip) (s .args .d) (s .pre .3)
 
   coordinate-in : s .args .d < 4
   coordinate-in = omega (arith, s .pre .3, s .pre .0 .head .few-axes)

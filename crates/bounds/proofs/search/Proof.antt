@@ -100,8 +100,11 @@ region-at-requires : tie.Need-region-at-requires Inv-loop μ-loop
 region-at-requires c κs =
     let b = ends c in
     let e = entry b in
-    let h = swept-in (task b) (rows b) (row b) (shape b) (loop c .loop .inv .0) (c .turned-point .ensures) (loop c .loop .inv .1) in
-    (record { block = e .pre .0; table = e .pre .1; row = e .pre .2; near = in-small _ _ (e .pre .4) h }, e .pre .6, e .pre .7 (c .turned-point .result) h)
+    let h = swept-in (task b) (rows b) (row b) (shape b) (loop c .loop .inv .0) (c .turned-point .ensures) (loop c .loop .inv .1) in (
+      record { block = e .pre .0; table = e .pre .1; row = e .pre .2; near = in-small _ _ (e .pre .4) h },
+      e .pre .6,
+      e .pre .7 (c .turned-point .result) h,
+    )
 
 returns : tie.Need-returns Inv-loop μ-loop
 returns c =

@@ -65,7 +65,10 @@ returns-3 c =
 abbrev word : tie.After-read-line → ℤ
 word c = getD (c .read-line .result .words) 0 (pos 0)
 
-first : (c : tie.Else3) → readText (now (c .before .before .before .before .before .before .before .before .args .text)) ≡ afterK (word (c .before .before) ∷ []) (partsFrom 10 (now (c .before .before .before .before .before .before .before .before .args .text)) (c .before .before .before .before .before .find .result + 1))
+first : (c : tie.Else3) → readText (now (c .before .before .before .before .before .before .before .before .args .text))
+    ≡ afterK (word (c .before .before) ∷ [])
+    (partsFrom 10 (now (c .before .before .before .before .before .before .before .before .args .text))
+    (c .before .before .before .before .before .find .result + 1))
 first c =
     let read-line = c .before .before in
     let if2 = read-line .before .before in

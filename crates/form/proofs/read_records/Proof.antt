@@ -60,7 +60,8 @@ returns c =
     let start = lines-into .before .before .before .before .before in
     let args = start .args in
     c .unformed .ensures
-    ∙ ap parsedOf (sym (records-bad (now (args .s)) (args .at) (args .k) (lines-into .lines-into .ensures) (lines-into2 .lines-into2 .ensures) (lines-into3 .lines-into3 .ensures) (c .before .if1 .taken)))
+    ∙ ap parsedOf (sym (records-bad (now (args .s)) (args .at) (args .k) (lines-into .lines-into .ensures) (lines-into2 .lines-into2 .ensures)
+    (lines-into3 .lines-into3 .ensures) (c .before .if1 .taken)))
 
 slice-aggregate-put-counts : tie.Need-slice-aggregate-put-counts
 slice-aggregate-put-counts c = search needs
@@ -78,7 +79,8 @@ returns-2 c =
     let block-zeros = table-zeros .before in
     let start = block-zeros .before .before in
     let args = start .args in
-    parsed (now (args .s)) (args .at) (args .k) (lines-into .lines-into .ensures) (lines-into2 .lines-into2 .ensures) (lines-into3 .lines-into3 .ensures)
+    parsed (now (args .s)) (args .at) (args .k) (lines-into .lines-into .ensures) (lines-into2 .lines-into2 .ensures)
+    (lines-into3 .lines-into3 .ensures)
     (block-zeros .block-zeros .ensures) (table-zeros .table-zeros .ensures) (if1 .if1 .left) (c .before .put-counts .ensures)
 
 pub read-records-spec : {M : Type 1} → statement M

@@ -34,10 +34,13 @@ record Room (start len n m size : ℕ) : Type 0 where
   more : start + len + (n - (m + 1)) * len ≤ size
   few : size ≤ 288
 
-room : (c : tie.In-loop Inv-loop μ-loop) → let args = c .before .before .before .args in Room (c .before .loop .start) (args .len) (args .n) (c .before .loop .m) (length (now (args .table)))
+room : (c : tie.In-loop Inv-loop μ-loop)
+    → let args = c .before .before .before .args in
+    Room (c .before .loop .start) (args .len) (args .n) (c .before .loop .m) (length (now (args .table)))
 room c =
     let start = c .before .before .before in
-    let r = row-room (c .before .loop .start) (start .args .len) (start .args .n) (c .before .loop .m) _ (c .loop-test .taken) (c .before .loop .inv .2) in
+    let r =
+    row-room (c .before .loop .start) (start .args .len) (start .args .n) (c .before .loop .m) _ (c .loop-test .taken) (c .before .loop .inv .2) in
     record { fits = r .0; more = r .1; few = start .pre .2 }
 
 add-put-row : tie.Need-add-put-row Inv-loop μ-loop
@@ -88,7 +91,8 @@ loop-again c =
     let t = now (args .table) in
     let r = room loop-test in
     let row = take (args .len) (drop (loop .start) t) in
-    let put = put-as (ap (λ (x : List ℤ). shown (pos (loop .m + 1)) ++ commas x) (row-words t (loop .start) (args .len))) (put-row .put-row .ensures) in
+    let put =
+    put-as (ap (λ (x : List ℤ). shown (pos (loop .m + 1)) ++ commas x) (row-words t (loop .start) (args .len))) (put-row .put-row .ensures) in
     let more = rows-more (args .len) (args .n) (loop .m) (loop .start) t (loop-test .loop-test .taken) in
     let size = row-length t (loop .start) (args .len) (r .fits) in
     let a = shown-few (pos (loop .m + 1)) in

@@ -62,7 +62,8 @@ returns c =
     let row-len = put-first .before .before .before in
     let start = row-len .before .before in
     let put = rw (toZ-ofZ (fits row-len)) at (put-first .put-first .ensures) in
-    put-as (settled-is (now (start .args .block)) (now (start .args .table)) (row-len .row-len .ensures) (start .pre)) (put-more put (put-rows .put-rows .ensures))
+    put-as (settled-is (now (start .args .block)) (now (start .args .table)) (row-len .row-len .ensures) (start .pre))
+    (put-more put (put-rows .put-rows .ensures))
 
 pub put-table-spec : {M : Type 1} → statement M
 put-table-spec =

@@ -63,7 +63,8 @@ same-length c = search needs
 returns : tie.Need-returns
 returns c =
     let b = c .before in let s = b .before .before in
-    rw (read-back (told b) (b .row-refusal .ok)) (narrow-refused (first s) (found s) (refusal-of s) (refused (told b) (b .row-refusal .ok) (c .if1 .taken)))
+    rw (read-back (told b) (b .row-refusal .ok))
+    (narrow-refused (first s) (found s) (refusal-of s) (refused (told b) (b .row-refusal .ok) (c .if1 .taken)))
 
 cast-row-place : tie.Need-cast-row-place
 cast-row-place c =
@@ -100,7 +101,8 @@ module _ (c : tie.After-narrow-row) where
   abbrev passed : tie.Else1
   passed = c .before .before .before .before .before .before .before .before
 
-  narrowed : (c .narrow-row .result ≡ stepAnswer (first (s passed)) (found (s passed))) × (c .narrow-row .last .1 .0 ≡ valueOr (first (s passed)) (found (s passed)))
+  narrowed : (c .narrow-row .result ≡ stepAnswer (first (s passed)) (found (s passed)))
+      × (c .narrow-row .last .1 .0 ≡ valueOr (first (s passed)) (found (s passed)))
   narrowed =
       let q = placed .row-place .ensures .1 ∙ row-cast passed in
       let w = rw q at (c .narrow-row .ensures) in

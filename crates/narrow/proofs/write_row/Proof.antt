@@ -183,7 +183,8 @@ returns c =
     let w = all-written (c .before) in
     let l = done (c .before) in
     let a = s l .args in
-    let q : l .loop .d ≡ axes (lentOf (now (a .block))) = omega (arith, l .before .axes-of .ensures, l .loop .inv .0, c .before .before .before .loop-test .left) in
+    let q : l .loop .d ≡ axes (lentOf (now (a .block))) =
+    omega (arith, l .before .axes-of .ensures, l .loop .inv .0, c .before .before .before .loop-test .left) in
     (w .is ∙ ap₂ (λ (p m : ℕ). replaced (first l) p (pos (a .shapes) ∷ pairsBelow m (lows l) (highs l))) (s l .pre .2 .stands) q, w .tells)
 
 pub write-row-spec : {M : Type 1} → statement M

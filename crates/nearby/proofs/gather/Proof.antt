@@ -91,7 +91,8 @@ loop-holds c =
     let a = begin c .args in (
       omega arith,
       gathered-start _ _ _ _ (ready (written c)) refl,
-      grows-start _ _ _ _ (λ m p. bit (pos (c .before .set-at .result)) m && ruleForbids (lentOf (now (a .block))) (now (a .table)) (a .i .number) (a .s) m p),
+      grows-start _ _ _ _ (λ m p. bit (pos (c .before .set-at .result)) m
+          && ruleForbids (lentOf (now (a .block))) (now (a .table)) (a .i .number) (a .s) m p),
       refl,
     )
 
@@ -115,7 +116,8 @@ loop-again c =
     let a = begin b .args in (
       omega (arith, l .loop-test .taken),
       open-after _ _ _ _ (w .add-rule .ensures) (l .before .loop .inv .1),
-      grows-more _ _ _ _ (λ m p. bit (pos (b .before .set-at .result)) m && ruleForbids (lentOf (now (a .block))) (now (a .table)) (a .i .number) (a .s) m p)
+      grows-more _ _ _ _ (λ m p. bit (pos (b .before .set-at .result)) m
+          && ruleForbids (lentOf (now (a .block))) (now (a .table)) (a .i .number) (a .s) m p)
           (l .before .loop .inv .2) (w .add-rule .ensures),
       c .list3 .given ∙ l .before .loop .inv .3,
     )

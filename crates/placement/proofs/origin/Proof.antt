@@ -61,7 +61,8 @@ loop-again c =
       simp length-set (inv .1),
       λ e h.
           ⊎-elim
-          (λ q. ap (word (set (l .loop .p) (l .loop .d) (toZ w64 (ofZ w64 (c .low-of .result))))) q ∙ getD-set-same (l .loop .p) (l .loop .d) _ (pos 0) (omega (arith, inv .1, k, c .before .loop-test .taken))
+          (λ q. ap (word (set (l .loop .p) (l .loop .d) (toZ w64 (ofZ w64 (c .low-of .result))))) q
+          ∙ getD-set-same (l .loop .p) (l .loop .d) _ (pos 0) (omega (arith, inv .1, k, c .before .loop-test .taken))
           ∙ read-back (c .low-of .ensures) (c .low-of .ok) ∙ ap (low _ _ _) (sym q))
           (λ b. getD-set-other (l .loop .p) (l .loop .d) e _ (pos 0) (below-not b) ∙ inv .2 e b)
           (last-or (subst (λ (n : ℕ). e < n) (add-one (l .loop .d)) h)),

@@ -17,7 +17,8 @@ boxed : (c : tie.After-holds) → let s = c .before .before .before in
     && roomsHold (lentOf (s .args .block .now)) (s .args .i .number) (s .args .s) (s .args .p)) ≡ c .holds .result
 boxed c =
     let cut = c .before in
-    sym (cut .cut-box .ensures .is _) ∙ ap (λ (n : ℕ). inArea n (cut .cut-box .result) (cut .before .before .args .p)) (sym (cut .before .axes-of .ensures)) ∙ sym (c .holds .ensures)
+    sym (cut .cut-box .ensures .is _)
+    ∙ ap (λ (n : ℕ). inArea n (cut .cut-box .result) (cut .before .before .args .p)) (sym (cut .before .axes-of .ensures)) ∙ sym (c .holds .ensures)
 
 axes-of-requires : tie.Need-axes-of-requires
 axes-of-requires c κs = search needs
@@ -32,7 +33,8 @@ returns : tie.Need-returns
 unfolding allowed
 returns c =
     let s = c .before .before .before .before in
-    ap (λ (b : Bool). b && not (forbidden (lentOf (s .args .block .now)) (s .args .table .now) (s .args .i .number) (s .args .s) (s .args .p))) (sym (not-true _ (c .if1 .taken)) ∙ sym (boxed (c .before)))
+    ap (λ (b : Bool). b && not (forbidden (lentOf (s .args .block .now)) (s .args .table .now) (s .args .i .number) (s .args .s) (s .args .p)))
+    (sym (not-true _ (c .if1 .taken)) ∙ sym (boxed (c .before)))
 
 forbidding-region-requires : tie.Need-forbidding-region-requires
 forbidding-region-requires c κs =
@@ -43,7 +45,8 @@ forbidding-region-requires c κs =
       table = s .pre .1;
       row = s .pre .2;
       near = in-small _ _ (h .before .cut-box .ensures .small)
-          (ap (λ (n : ℕ). inArea n (h .before .cut-box .result) (s .args .p)) (sym (h .before .before .axes-of .ensures)) ∙ sym (h .holds .ensures) ∙ not-false _ (c .if1 .left));
+          (ap (λ (n : ℕ). inArea n (h .before .cut-box .result) (s .args .p)) (sym (h .before .before .axes-of .ensures)) ∙ sym (h .holds .ensures)
+          ∙ not-false _ (c .if1 .left));
     }
 
 returns-2 : tie.Need-returns-2

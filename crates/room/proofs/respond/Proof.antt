@@ -29,7 +29,8 @@ unfolding response
 returns c =
     let b = c .before .before in
     let room : length (now (b .before .before .args .out)) ≡ 13000 = search needs in
-    rw (not-true (b .before .before .args .whole) (b .if1 .taken)) (c .put-refused .ensures, put-counts (c .put-refused .ensures) (omega (arith, refused-few)))
+    rw (not-true (b .before .before .args .whole) (b .if1 .taken))
+    (c .put-refused .ensures, put-counts (c .put-refused .ensures) (omega (arith, refused-few)))
 
 answer-requires : tie.Need-answer-requires
 answer-requires c κs = tt

@@ -88,7 +88,8 @@ same-length-3 c = search needs
 returns-3 : tie.Need-returns-3
 returns-3 c =
     let w = c .before .before in
-    promised (w .before .before .before .before .before .before .before) (w .settle-with2 .result) (w .settle-with2 .last .1 .0) (w .settle-with2 .ensures)
+    promised (w .before .before .before .before .before .before .before) (w .settle-with2 .result) (w .settle-with2 .last .1 .0)
+    (w .settle-with2 .ensures)
 
 slice-aggregate-settle-with-3 : tie.Need-slice-aggregate-settle-with-3
 slice-aggregate-settle-with-3 c = search needs
@@ -102,7 +103,8 @@ same-length-4 c = search needs
 returns-4 : tie.Need-returns-4
 returns-4 c =
     let w = c .before .before in
-    promised (w .before .before .before .before .before .before .before) (w .settle-with3 .result) (w .settle-with3 .last .1 .0) (w .settle-with3 .ensures)
+    promised (w .before .before .before .before .before .before .before) (w .settle-with3 .result) (w .settle-with3 .last .1 .0)
+    (w .settle-with3 .ensures)
 
 pub settle-spec : {M : Type 1} → statement M
 settle-spec =

@@ -60,7 +60,8 @@ returns c =
     let l = c .before in
     let s = l .before .before in
     let a = s .args in
-    touched-so (l .loop .inv .2) (λ m h spared r k. unreached-covered (lentOf (a .block .now)) (a .table .now) (a .list .now) (s .pre .0 .ready .rules)
+    touched-so (l .loop .inv .2) (λ m h spared r k. unreached-covered (lentOf (a .block .now)) (a .table .now) (a .list .now)
+    (s .pre .0 .ready .rules)
     (a .i .number) (suc m) (λ q b. spared q (omega (arith, b, c .loop-test .left, l .loop .inv .1))) r k)
 
 pub touched-spec : {M : Type 1} → statement M

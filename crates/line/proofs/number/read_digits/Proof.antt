@@ -38,7 +38,8 @@ returns c =
     let loop-test = c .before .before .before in
     let loop = loop-test .before in
     let loop = loop in
-    let bad = digits-bad _ (loop .loop .i) (loop .loop .n) (loop-test .loop-test .taken) (sym (c .before .is-between .ensures) ∙ not-true (c .if1 .taken)) in
+    let bad =
+    digits-bad _ (loop .loop .i) (loop .loop .n) (loop-test .loop-test .taken) (sym (c .before .is-between .ensures) ∙ not-true (c .if1 .taken)) in
     ap (λ (o : Option ℕ). numberOf (signed pos o)) (sym bad ∙ loop .loop .inv .0)
 
 -- the byte is a digit, and the number so far is small
@@ -48,7 +49,8 @@ record Digit (b n : ℕ) : Type 0 where
   high : b ≤ 57
   small : n < 10000000000
 
-digit : (c : tie.Else1 Inv-loop μ-loop) → let loop = c .before .before .before .before in Digit (getD (now (loop .before .before .args .f)) (loop .loop .i) 0) (loop .loop .n)
+digit : (c : tie.Else1 Inv-loop μ-loop)
+    → let loop = c .before .before .before .before in Digit (getD (now (loop .before .before .args .f)) (loop .loop .i) 0) (loop .loop .n)
 digit c =
     let loop = c .before .before .before .before in
     let loop = loop in

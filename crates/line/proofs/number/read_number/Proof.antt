@@ -10,7 +10,8 @@ use Rattle.stores.proofs.Stores.{part-all}
 use Rattle.sheet.specs.Text.{positive, signed}
 use Rattle.line.specs.Answers.{numberOf}
 use Rattle.line.proofs.Digits.{positive-small}
-use Rattle.line.proofs.Numbers.{number-none, number-zero, number-zeros, number-minus, number-plain, number-found, number-missing, Positive, signed-some, signed-none, minus-fits, minus-is}
+use Rattle.line.proofs.Numbers.{number-none, number-zero, number-zeros, number-minus, number-plain, number-found}
+use Rattle.line.proofs.Numbers.{number-missing, Positive, signed-some, signed-none, minus-fits, minus-is}
 use Rattle.line.proofs.number.read_number.Statement.{statement}
 use Rattle.line.proofs.number.read_number.Tie as tie
 
@@ -44,12 +45,14 @@ enum-known-v : tie.Need-enum-known-v
 enum-known-v c = search needs
 
 -- what stands after the minus
-answer : (c : tie.After-read-positive) → c .read-positive .result ≡ numberOf (signed pos (positive (drop 1 (now (c .before .before .before .before .before .before .before .args .f)))))
+answer : (c : tie.After-read-positive)
+    → c .read-positive .result ≡ numberOf (signed pos (positive (drop 1 (now (c .before .before .before .before .before .before .before .args .f)))))
 answer c =
     let start = c .before .before .before .before .before .before .before in
     c .read-positive .ensures ∙ rw (part-all (now (start .args .f)) 1 refl)
 
-found : (c : tie.After-v) → Positive (positive (drop 1 (now (c .before .before .before .before .before .before .before .before .before .args .f)))) (c .v .given .0 .0)
+found : (c : tie.After-v)
+    → Positive (positive (drop 1 (now (c .before .before .before .before .before .before .before .before .before .args .f)))) (c .v .given .0 .0)
 found c = signed-some _ (number-found _ (sym (answer (c .before .before)) ∙ c .v .given .1))
 
 sub-t17 : tie.Need-sub-t17
@@ -81,7 +84,8 @@ returns-5 c =
     let if4 = read-positive .before .before in
     let if1 = if4 .before .before .before in
     let start = if1 .before .before in
-    let none-there = signed-none (positive (drop 1 (now (start .args .f)))) (number-missing _ (sym (answer read-positive) ∙ c .enum-told .given .1)) in
+    let none-there =
+    signed-none (positive (drop 1 (now (start .args .f)))) (number-missing _ (sym (answer read-positive) ∙ c .enum-told .given .1)) in
     ap numberOf (sym (number-minus _ (if1 .if1 .left) (if4 .if4 .taken) ∙ ap (signed minus) none-there))
 
 returns-6 : tie.Need-returns-6

@@ -20,7 +20,8 @@ within-requires c κs = (c .before .pre .0, sum-is (bnd (c .before .pre .1) +ʷ 
 returns : tie.Need-returns
 returns c k h =
     let s = c .before .before in
-    rw (c .before .if1 .taken) (cuts-same (λ p. ap (λ (y : ℤ). within y (pos 2000000) (word p (s .args .d))) (exact (bnd (s .pre .1) +ʷ num 1) tt)) (c .within .ensures k h))
+    rw (c .before .if1 .taken) (cuts-same (λ p. ap (λ (y : ℤ). within y (pos 2000000) (word p (s .args .d))) (exact (bnd (s .pre .1) +ʷ num 1) tt))
+    (c .within .ensures k h))
 
 sub-within : tie.Need-sub-within
 sub-within c = search needs
@@ -29,12 +30,14 @@ sub-within-2 : tie.Need-sub-within-2
 sub-within-2 c = diff-fits (bnd (c .before .pre .1)) (num 1) tt
 
 within-requires-2 : tie.Need-within-requires-2
-within-requires-2 c κs = (c .before .pre .0, record { above = omega arith; below = omega arith }, sum-is (bnd (c .before .pre .1) -ʷ num 1) tt refl .1)
+within-requires-2 c κs =
+    (c .before .pre .0, record { above = omega arith; below = omega arith }, sum-is (bnd (c .before .pre .1) -ʷ num 1) tt refl .1)
 
 returns-2 : tie.Need-returns-2
 returns-2 c k h =
     let s = c .before .before in
-    rw (c .before .if1 .left) (cuts-same (λ p. ap (λ (y : ℤ). within (minus 2000000) y (word p (s .args .d))) (exact (bnd (s .pre .1) -ʷ num 1) tt)) (c .within2 .ensures k h))
+    rw (c .before .if1 .left) (cuts-same (λ p. ap (λ (y : ℤ). within (minus 2000000) y (word p (s .args .d))) (exact (bnd (s .pre .1) -ʷ num 1) tt))
+    (c .within2 .ensures k h))
 
 pub ahead-of-spec : {M : Type 1} → statement M
 ahead-of-spec =

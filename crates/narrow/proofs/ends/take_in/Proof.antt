@@ -91,7 +91,8 @@ loop-again c =
       length-next (w .ends) (w .e) _ _ (w .inv .1) (l .loop-test .taken),
       taken-more (w .ends) (w .e) _ _ (w .inv .1) (l .loop-test .taken) (w .inv .2)
           (bits-back (q .lesser .ok) ∙ q .lesser .ensures
-          ∙ ap₂ minZ (bits-back {z = word (w .ends) (w .e)} (q .before .before .lesser-arg .given)) (bits-back {z = p} (q .before .lesser-arg2 .given)))
+          ∙ ap₂ minZ (bits-back {z = word (w .ends) (w .e)} (q .before .before .lesser-arg .given))
+          (bits-back {z = p} (q .before .lesser-arg2 .given)))
           (bits-back (c .larger .ok) ∙ c .larger .ensures
           ∙ ap₂ maxZ (bits-back {z = word (set (w .ends) (w .e) low) (4 + w .e)} (c .before .before .larger-arg .given))
           (bits-back {z = p} (c .before .larger-arg2 .given))),

@@ -50,7 +50,8 @@ module _ (s : tie.Start) where
 end-back : (c : tie.After-end-of) → toZ w64 (ofZ w64 (c .end-of .result)) ≡ z (c .before .before)
 end-back c = bits-back (c .end-of .ok) ∙ c .end-of .ensures
 
-tested : (c : tie.After-none-past) → let s = c .before .before .before in c .none-past .result ≡ none-past (s .args .flip) (s .args .cut) (s .args .d) (z s)
+tested : (c : tie.After-none-past)
+    → let s = c .before .before .before in c .none-past .result ≡ none-past (s .args .flip) (s .args .cut) (s .args .d) (z s)
 tested c =
     let s = c .before .before .before in
     subst (λ (y : ℤ). c .none-past .result ≡ none-past (s .args .flip) (s .args .cut) (s .args .d) y) (end-back (c .before)) (c .none-past .ensures)
@@ -62,9 +63,11 @@ module _ (c : tie.After-ahead-of) where
   abbrev area : Area
   area = c .ahead-of .result
 
-  cuts : Cuts (axes (lent b)) (b .args .cut) area (λ p. within (past-from (b .args .flip) (z b)) (past-to (b .args .flip) (z b)) (word p (b .args .d)))
+  cuts : Cuts (axes (lent b)) (b .args .cut) area
+      (λ p. within (past-from (b .args .flip) (z b)) (past-to (b .args .flip) (z b)) (word p (b .args .d)))
   cuts =
-      subst (λ (y : ℤ). Cuts (axes (lent b)) (b .args .cut) area (λ p. within (past-from (b .args .flip) y) (past-to (b .args .flip) y) (word p (b .args .d))))
+      subst (λ (y : ℤ). Cuts (axes (lent b)) (b .args .cut) area
+      (λ p. within (past-from (b .args .flip) y) (past-to (b .args .flip) y) (word p (b .args .d))))
       (end-back (c .before .before .before)) (c .ahead-of .ensures (axes (lent b)) (b .pre .3))
 
   some : inArea (axes (lent b)) area (area .low) ≡ true

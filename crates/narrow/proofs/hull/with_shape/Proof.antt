@@ -84,7 +84,8 @@ holds-requires c κs = search needs
 returns : tie.Need-returns
 returns c =
     let h = c .before in
-    let w = skipped (s h) (none-allowed (lent (s h)) (table (s h)) (row (s h)) (next (s h)) (cut h) (box h) (sym (tested h) ∙ not-true (c .if1 .taken))) in
+    let w =
+    skipped (s h) (none-allowed (lent (s h)) (table (s h)) (row (s h)) (next (s h)) (cut h) (box h) (sym (tested h) ∙ not-true (c .if1 .taken))) in
     (w .0, w .1, s h .pre .7)
 
 add-gather : tie.Need-add-gather
@@ -163,7 +164,8 @@ returns-3 c =
     let f = w .before .before .before .before .before .before .before in
     let r = f .before in
     let h = b r in (
-      sym (kept-shape (lent (s h)) (table (s h)) (row (s h)) (next (s h)) (r .search .result .point) (s h .pre .4) (found r (not-false (f .if2 .left)))),
+      sym (kept-shape (lent (s h)) (table (s h)) (row (s h)) (next (s h)) (r .search .result .point) (s h .pre .4)
+          (found r (not-false (f .if2 .left)))),
       λ flip d l. inl (w .widen .ensures flip d l),
       r .before .before .before .gather .ensures .0,
     )

@@ -69,7 +69,8 @@ returns-4 c =
     let b = e .before .before in
     let s = top b in
     let w = s .pre .0 in
-    grows-entry _ _ _ _ _ (w .block .head) (w .table .whole .few-rows) (s .pre .5 .ready .hulls _ (w .from) (w .upto)) (s .pre .1 .below) (s .pre .2 .from)
+    grows-entry _ _ _ _ _ (w .block .head) (w .table .whole .few-rows) (s .pre .5 .ready .hulls _ (w .from) (w .upto)) (s .pre .1 .below)
+    (s .pre .2 .from)
     (s .pre .2 .upto) (s .pre .3 .below) (s .pre .4) (e .put-entry .ensures .1 (not-false (c .if3 .left))) (room b)
 
 pub add-box-spec : {M : Type 1} → statement M

@@ -59,7 +59,8 @@ returns-3 c =
     ∙ several-none _ _ _ _ _ _ (rw (o .before .row-place .ensures .1) at (o .only-shape .ensures)) (c .if3 .taken) p)
 
 opponent : (c : tie.Else3) → let o = c .before in let a = top o .args in
-    Opponent (lentOf (now (a .block))) (now (a .table)) (a .q .i .number) (a .r .number) (o .before .row-place .result .number) (o .only-shape .result)
+    Opponent (lentOf (now (a .block))) (now (a .table)) (a .q .i .number) (a .r .number) (o .before .row-place .result .number)
+    (o .only-shape .result)
 opponent c =
     let o = c .before in
     let n = named o in

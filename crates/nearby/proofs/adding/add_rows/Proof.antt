@@ -74,7 +74,8 @@ unfolding rowsForbid
 returns c =
     let l = c .before in
     let s = l .before .before in
-    let q : l .loop .j ≡ rows (lentOf (now (s .args .block))) (now (s .args .table)) = omega (arith, l .before .rows-of .ensures, l .loop .inv .0, c .loop-test .left) in
+    let q : l .loop .j ≡ rows (lentOf (now (s .args .block))) (now (s .args .table)) =
+    omega (arith, l .before .rows-of .ensures, l .loop .inv .0, c .loop-test .left) in
     rw q at (l .loop .inv .2)
 
 pub add-rows-spec : {M : Type 1} → statement M

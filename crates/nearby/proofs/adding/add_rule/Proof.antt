@@ -34,7 +34,8 @@ module _ (c : tie.After-is-non-overlap-of) where
   top = c .before .before .before .before
 
   apart : c .is-non-overlap-of .result
-      ≡ (isNonOverlap (lentOf (now (top .args .block))) (top .args .r) && namesRow (lentOf (now (top .args .block))) (top .args .r) (top .args .q .i .number))
+      ≡ (isNonOverlap (lentOf (now (top .args .block))) (top .args .r)
+      && namesRow (lentOf (now (top .args .block))) (top .args .r) (top .args .q .i .number))
   apart =
       c .is-non-overlap-of .ensures
       ∙ ap (λ (m : ℕ). isNonOverlap (lentOf (now (top .args .block))) m && namesRow (lentOf (now (top .args .block))) m (top .args .q .i .number))

@@ -91,7 +91,8 @@ module _ (c : tie.After-list Inv-loop μ-loop) where
   abbrev listed : ℕ → List ℤ → Bool
   listed m p =
       isOf (lentOf (now (top (c .before .before .before .before) .args .block))) m (top (c .before .before .before .before) .args .t)
-      && rivalForbids (lentOf (now (top (c .before .before .before .before) .args .block))) (now (top (c .before .before .before .before) .args .table))
+      && rivalForbids (lentOf (now (top (c .before .before .before .before) .args .block)))
+      (now (top (c .before .before .before .before) .args .table))
       (top (c .before .before .before .before) .args .q .i .number) (top (c .before .before .before .before) .args .q .s)
       (top (c .before .before .before .before) .args .r .number) (top (c .before .before .before .before) .args .j .number) m p
 
@@ -101,7 +102,8 @@ module _ (c : tie.After-list Inv-loop μ-loop) where
   one-more = subst (λ (m : ℕ). Grows (lentOf (now (top test .args .block))) (now (top test .args .table)) (top test .args .q .i .number)
       (top test .args .q .s) (listed m) (test .before .loop .list) (test .before .loop .found)
       (c .before .add-box .last .1 .1 .0) (c .before .add-box .result)) (place .box-place .ensures .1)
-      (grows-by _ _ _ _ (λ p h. and-true {a = isOf (lentOf (now (top test .args .block))) (place .box-place .result .number) (top test .args .t)} h .1)
+      (grows-by _ _ _ _ (λ p h. and-true {a = isOf (lentOf (now (top test .args .block))) (place .box-place .result .number) (top test .args .t)}
+      h .1)
       (c .before .add-box .ensures))
 
   gathered : Open (lentOf (now (top test .args .block))) (now (top test .args .table)) (top test .args .q .i .number) (top test .args .q .s)

@@ -96,7 +96,8 @@ returns c =
     p .put .ensures ∙ ap (λ (n : ℕ). set list b (pos n)) (r .count-at .ensures) in
     let both = q .put2 .ensures ∙ ap (λ (l : List ℤ). set l (127 + shape i) (pos b)) own in (
       subst (λ (l : List ℤ). IndexFrom lent l b) (sym both)
-          (index-linked (s .pre .3) (s .pre .2) (s .pre .0 .head .few-boxes) (s .pre .1) (from i) (upto i) (s .pre .0 .shapes _ (s .pre .2)) (sym (shape-of-b (i .before .before)))),
+          (index-linked (s .pre .3) (s .pre .2) (s .pre .0 .head .few-boxes) (s .pre .1) (from i) (upto i) (s .pre .0 .shapes _ (s .pre .2))
+          (sym (shape-of-b (i .before .before)))),
       ap length both ∙ simp length-set refl,
     )
 

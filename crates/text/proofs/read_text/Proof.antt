@@ -37,7 +37,8 @@ returns-2 c =
     c .refused2 .ensures ∙ read-long _ _ (parse-text .parse-text .ensures) (not-false (if1 .if1 .left)) (c .before .if2 .taken)
 
 block-in : (c : tie.Else2)
-    → c .before .before .before .before .before .parse-text .result .«block_len» ≤ length (c .before .before .before .before .before .parse-text .result .block)
+    → let parsed = c .before .before .before .before .before .parse-text .result in
+    parsed .«block_len» ≤ length (parsed .block)
 block-in c =
     let parse-text = c .before .before .before .before .before in
     let start = parse-text .before .before in
@@ -45,7 +46,8 @@ block-in c =
     omega (arith, parsed-long (readText (now (start .args .text))) (p .result) (p .ensures) .0, c .if2 .left)
 
 table-in : (c : tie.Else3)
-    → c .before .before .before .before .before .before .parse-text .result .«table_len» ≤ length (c .before .before .before .before .before .before .parse-text .result .table)
+    → let parsed = c .before .before .before .before .before .before .parse-text .result in
+    parsed .«table_len» ≤ length (parsed .table)
 table-in c =
     let parse-text = c .before .before .before .before .before .before in
     let start = parse-text .before .before in

@@ -10,7 +10,6 @@ use mir.Syntax.{w64}
 use mir.Val.{toZ, ofZ}
 use Rattle.integers.proofs.Ints.{ints}
 use Rattle.words.proofs.Reading.{read-back}
-use Rattle.sheet.specs.Layout.{Lent}
 use Rattle.sheet.specs.Refusal.{_when_, _else_, badHead, badCounts, badBlockLength, badTableLength, badBox, badRule, badRow, refusal}
 use Rattle.sheet.proofs.Accepted.{zero-when}
 
@@ -27,29 +26,29 @@ pub past : (n : ℕ) {b : Bool} (h : ℕ) → b ≡ false → (n when b else h) 
 unfolding _when_ _else_
 past n h e = rw e
 
-module _ (lent : Lent) (t : List ℤ) where
+module _ (block : List ℤ) (t : List ℤ) where
   abbrev pub from8 : ℕ
-  from8 = 8 when badRow lent t
+  from8 = 8 when badRow block t
 
   abbrev pub from7 : ℕ
-  from7 = 7 when badRule lent t else from8
+  from7 = 7 when badRule block t else from8
 
   abbrev pub from6 : ℕ
-  from6 = 6 when badBox lent else from7
+  from6 = 6 when badBox block else from7
 
   abbrev pub from5 : ℕ
-  from5 = 5 when badTableLength lent t else from6
+  from5 = 5 when badTableLength block t else from6
 
   abbrev pub from4 : ℕ
-  from4 = 4 when badBlockLength lent else from5
+  from4 = 4 when badBlockLength block else from5
 
   abbrev pub from3 : ℕ
-  from3 = 3 when badCounts lent else from4
+  from3 = 3 when badCounts block else from4
 
   abbrev pub from2 : ℕ
-  from2 = 2 when badHead lent else from3
+  from2 = 2 when badHead block else from3
 
-  pub refusal-from2 : refusal lent t ≡ from2
+  pub refusal-from2 : refusal block t ≡ from2
   unfolding refusal
   refusal-from2 = refl
 

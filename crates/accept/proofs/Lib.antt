@@ -4,3 +4,4 @@ pub mod Tests
 pub mod Marks
 pub mod Chain
 pub mod Asked
+pub mod Shapes

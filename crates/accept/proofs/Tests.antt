@@ -24,7 +24,7 @@ use Rattle.integers.proofs.Below.{some-upto, upto-some}
 use Rattle.integers.proofs.Bits.{one-lt}
 use Rattle.integers.proofs.Ints.{ints, within-true, leZ-true, true-leZ, ltZ-false, false-ltZ}
 use Rattle.integers.proofs.Sets.{full-le, only-shape, no-only}
-use Rattle.sheet.specs.Layout.{Lent, rowLen, kind, isNonOverlap, isContainment, rows}
+use Rattle.sheet.specs.Layout.{rowLen, kind, isNonOverlap, isContainment, rows}
 
 one-or-two : (z : ℤ) → within (pos 1) (pos 2) z ≡ (eqZ z (pos 1) || eqZ z (pos 2))
 one-or-two z = both-ways _ _ into out
@@ -37,9 +37,9 @@ one-or-two z = both-ways _ _ into out
     out : (eqZ z (pos 1) || eqZ z (pos 2)) ≡ true → within (pos 1) (pos 2) z ≡ true
     out e = ⊎-elim (λ q. omega ints) (λ q. omega ints) (or-true {a = eqZ z (pos 1)} e)
 
-pub kinds : (lent : Lent) (r : ℕ) → within (pos 1) (pos 2) (kind lent r) ≡ (isNonOverlap lent r || isContainment lent r)
+pub kinds : (block : List ℤ) (r : ℕ) → within (pos 1) (pos 2) (kind block r) ≡ (isNonOverlap block r || isContainment block r)
 unfolding isNonOverlap isContainment
-kinds lent r = one-or-two (kind lent r)
+kinds block r = one-or-two (kind block r)
 
 -- ---- the set of the numbers 1 to n, as the code shifts it
 pub power-fits : {n : ℕ} → n ≤ 32 → 1 * 2 ^ n % 18446744073709551616 ≡ 2 ^ n
@@ -51,9 +51,9 @@ pub full-fits : {n : ℕ} → n ≤ 32 → SFits w64 (pos (2 ^ n - 1))
 full-fits {n} h = record { sfits = omega (arith, full-le {m = n} {n = 32} h) }
 
 -- ---- lengths
-pub rows-fit : (lent : Lent) (t : List ℤ) → rows lent t * rowLen lent ≤ length t
+pub rows-fit : (block : List ℤ) (t : List ℤ) → rows block t * rowLen block ≤ length t
 unfolding rows
-rows-fit lent t = div-mul-le-self (length t) (rowLen lent)
+rows-fit block t = div-mul-le-self (length t) (rowLen block)
 
 pub ltb-not-leb : (a b : ℕ) → ltb a b ≡ not (leb b a)
 ltb-not-leb a b = both-ways _ _ (λ e. ap not (lt-leb b a (ltb-true a b e))) (λ e. lt-ltb a b (leb-false b a (not-true e)))

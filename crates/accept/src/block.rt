@@ -3,7 +3,7 @@ ghost use mathlib.Core.Path.{_≡_};
 ghost use mathlib.Core.Bool.{false, _&&_};
 ghost use Prim.Native.Nat.{_<_, _≤_};
 ghost use Rattle.integers.specs.Below.{allBelow};
-ghost use Rattle.sheet.specs.Layout.{lentOf, dims, kind, isContainment, dimSet, namesDim, validBox, validEnds, validRule};
+ghost use Rattle.sheet.specs.Layout.{dims, kind, isContainment, dimSet, namesDim, validBox, validEnds, validRule};
 ghost use Rattle.sheet.specs.Refusal.{badHead, badCounts, badBlockLength, badBox, badRule};
 ghost use Rattle.sheet.specs.Accepted.{Count, Head, Rows};
 ghost use Rattle.words.specs.Places.{BoxPlace, RulePlace};
@@ -14,21 +14,21 @@ use words::Place;
 // ---- 2 to 4: k, B, R and the length
 
 pub fn bad_head(block: &[i64]) -> bool
-    ensures { λ r. ⌜ r ≡ badHead (lentOf (now (block .entry))) ⌝ }
+    ensures { λ r. ⌜ r ≡ badHead (now (block .entry)) ⌝ }
 {
     block.len() < 3 || !words::word_in(block, 0, 1, 4)
 }
 
 pub fn bad_counts(block: &[i64]) -> bool
-    requires { ⌜ badHead (lentOf (now block)) ≡ false ⌝ }
-    ensures { λ r. ⌜ r ≡ badCounts (lentOf (now (block .entry))) ⌝ }
+    requires { ⌜ badHead (now block) ≡ false ⌝ }
+    ensures { λ r. ⌜ r ≡ badCounts (now (block .entry)) ⌝ }
 {
     !words::word_in(block, 1, 1, 128) || !words::word_in(block, 2, 0, 32)
 }
 
 pub fn bad_block_length(block: &[i64]) -> bool
-    requires { ⌜ (badHead (lentOf (now block)) ≡ false) × (badCounts (lentOf (now block)) ≡ false) ⌝ }
-    ensures { λ r. ⌜ r ≡ badBlockLength (lentOf (now (block .entry))) ⌝ }
+    requires { ⌜ (badHead (now block) ≡ false) × (badCounts (now block) ≡ false) ⌝ }
+    ensures { λ r. ⌜ r ≡ badBlockLength (now (block .entry)) ⌝ }
 {
     let k = words::count_at(block, 0);
     let n = words::count_at(block, 1);
@@ -39,8 +39,8 @@ pub fn bad_block_length(block: &[i64]) -> bool
 // ---- 6: the boxes
 
 pub fn bad_box(block: &[i64]) -> bool
-    requires { ⌜ Head (lentOf (now block)) ⌝ }
-    ensures { λ r. ⌜ r ≡ badBox (lentOf (now (block .entry))) ⌝ }
+    requires { ⌜ Head (now block) ⌝ }
+    ensures { λ r. ⌜ r ≡ badBox (now (block .entry)) ⌝ }
 {
     let n = words::boxes_of(block);
     let mut b = 0;
@@ -54,15 +54,15 @@ pub fn bad_box(block: &[i64]) -> bool
 }
 
 fn valid_box(block: &[i64], b: Place) -> bool
-    requires { ⌜ Head (lentOf (now block)) × BoxPlace (lentOf (now block)) b ⌝ }
-    ensures { λ r. ⌜ r ≡ validBox (lentOf (now (block .entry))) (b .number) ⌝ }
+    requires { ⌜ Head (now block) × BoxPlace (now block) b ⌝ }
+    ensures { λ r. ⌜ r ≡ validBox (now (block .entry)) (b .number) ⌝ }
 {
     words::is_within(words::shape_of(block, b), 1, 32) && valid_extents(block, b)
 }
 
 fn valid_extents(block: &[i64], b: Place) -> bool
-    requires { ⌜ Head (lentOf (now block)) × BoxPlace (lentOf (now block)) b ⌝ }
-    ensures { λ r. ⌜ r ≡ allBelow (dims (lentOf (now (block .entry)))) (validExtent (lentOf (now (block .entry))) (b .number)) ⌝ }
+    requires { ⌜ Head (now block) × BoxPlace (now block) b ⌝ }
+    ensures { λ r. ⌜ r ≡ allBelow (dims (now (block .entry))) (validExtent (now (block .entry)) (b .number)) ⌝ }
 {
     let k = words::dims_of(block);
     let mut d = 0;
@@ -76,8 +76,8 @@ fn valid_extents(block: &[i64], b: Place) -> bool
 }
 
 fn valid_extent(block: &[i64], b: Place, d: usize) -> bool
-    requires { ⌜ Head (lentOf (now block)) × BoxPlace (lentOf (now block)) b × (d < dims (lentOf (now block))) ⌝ }
-    ensures { λ r. ⌜ r ≡ validExtent (lentOf (now (block .entry))) (b .number) d ⌝ }
+    requires { ⌜ Head (now block) × BoxPlace (now block) b × (d < dims (now block)) ⌝ }
+    ensures { λ r. ⌜ r ≡ validExtent (now (block .entry)) (b .number) d ⌝ }
 {
     words::is_within(words::offset_of(block, b, d), -10000, 10000)
         && words::is_within(words::size_of(block, b, d), 1, 10000)
@@ -86,8 +86,8 @@ fn valid_extent(block: &[i64], b: Place, d: usize) -> bool
 // ---- 7: the rules
 
 pub fn bad_rule(block: &[i64], table: &[i64]) -> bool
-    requires { ⌜ Head (lentOf (now block)) × Rows (lentOf (now block)) (now table) ⌝ }
-    ensures { λ r. ⌜ r ≡ badRule (lentOf (now (block .entry))) (now (table .entry)) ⌝ }
+    requires { ⌜ Head (now block) × Rows (now block) (now table) ⌝ }
+    ensures { λ r. ⌜ r ≡ badRule (now (block .entry)) (now (table .entry)) ⌝ }
 {
     let n = words::rows_of(block, table);
     let m = words::rules_of(block);
@@ -103,8 +103,8 @@ pub fn bad_rule(block: &[i64], table: &[i64]) -> bool
 
 // In a sheet of n rows.
 fn valid_rule(block: &[i64], r: Place, n: usize) -> bool
-    requires { ⌜ Head (lentOf (now block)) × RulePlace (lentOf (now block)) r × (n ≤ 32) ⌝ }
-    ensures { λ x. ⌜ x ≡ validRule (lentOf (now (block .entry))) n (r .number) ⌝ }
+    requires { ⌜ Head (now block) × RulePlace (now block) r × (n ≤ 32) ⌝ }
+    ensures { λ x. ⌜ x ≡ validRule (now (block .entry)) n (r .number) ⌝ }
 {
     if !words::is_within(words::kind_of(block, r), 1, 2) {
         return false;
@@ -119,9 +119,9 @@ fn valid_rule(block: &[i64], r: Place, n: usize) -> bool
 }
 
 fn valid_rooms(block: &[i64], r: Place) -> bool
-    requires { ⌜ Head (lentOf (now block)) × RulePlace (lentOf (now block)) r
-        × Count (kind (lentOf (now block)) (r .number)) × Count (dimSet (lentOf (now block)) (r .number)) ⌝ }
-    ensures { λ x. ⌜ x ≡ allBelow (dims (lentOf (now (block .entry)))) (validEnds (lentOf (now (block .entry))) (r .number)) ⌝ }
+    requires { ⌜ Head (now block) × RulePlace (now block) r
+        × Count (kind (now block) (r .number)) × Count (dimSet (now block) (r .number)) ⌝ }
+    ensures { λ x. ⌜ x ≡ allBelow (dims (now (block .entry))) (validEnds (now (block .entry)) (r .number)) ⌝ }
 {
     let k = words::dims_of(block);
     let mut d = 0;
@@ -136,17 +136,17 @@ fn valid_rooms(block: &[i64], r: Place) -> bool
 
 // Whether rule r has a room in dimension d.
 fn has_room(block: &[i64], r: Place, d: usize) -> bool
-    requires { ⌜ Head (lentOf (now block)) × RulePlace (lentOf (now block)) r
-        × Count (kind (lentOf (now block)) (r .number)) × Count (dimSet (lentOf (now block)) (r .number)) × (d < dims (lentOf (now block))) ⌝ }
-    ensures { λ x. ⌜ x ≡ (isContainment (lentOf (now (block .entry))) (r .number) && namesDim (lentOf (now (block .entry))) (r .number) d) ⌝ }
+    requires { ⌜ Head (now block) × RulePlace (now block) r
+        × Count (kind (now block) (r .number)) × Count (dimSet (now block) (r .number)) × (d < dims (now block)) ⌝ }
+    ensures { λ x. ⌜ x ≡ (isContainment (now (block .entry)) (r .number) && namesDim (now (block .entry)) (r .number) d) ⌝ }
 {
     words::is_containment(block, r) && words::names_dim(block, r, d)
 }
 
 fn valid_ends(block: &[i64], r: Place, d: usize) -> bool
-    requires { ⌜ Head (lentOf (now block)) × RulePlace (lentOf (now block)) r
-        × Count (kind (lentOf (now block)) (r .number)) × Count (dimSet (lentOf (now block)) (r .number)) × (d < dims (lentOf (now block))) ⌝ }
-    ensures { λ x. ⌜ x ≡ validEnds (lentOf (now (block .entry))) (r .number) d ⌝ }
+    requires { ⌜ Head (now block) × RulePlace (now block) r
+        × Count (kind (now block) (r .number)) × Count (dimSet (now block) (r .number)) × (d < dims (now block)) ⌝ }
+    ensures { λ x. ⌜ x ≡ validEnds (now (block .entry)) (r .number) d ⌝ }
 {
     if has_room(block, r, d) {
         return range::valid_range(words::room_low(block, r, d), words::room_high(block, r, d));

@@ -8,7 +8,6 @@ ghost use Prim.Native.Nat.{_+_, _*_};
 ghost use denote.Ref.{ptr};
 ghost use lib.IntN.{ℤ, pos};
 ghost use lib.ListN.{length};
-ghost use Rattle.sheet.specs.Layout.{lentOf};
 ghost use Rattle.sheet.specs.Refusal.{noSuchRow, noSuchShape, noSuchDim};
 ghost use Rattle.sheet.specs.Refusal.{refusal, refusalRow, refusalShape, refusalDim, refusalPlacement, rowSlice, rowStart};
 ghost use Rattle.sheet.specs.Accepted.{Head, Rows, Table};
@@ -20,7 +19,7 @@ mod table; // table.rt: checks 5, 8 and 12
 // ---- a sheet
 
 pub fn refusal(block: &[i64], table: &[i64]) -> i64
-    ensures { λ r. ⌜ r ≡ pos (refusal (lentOf (now (block .entry))) (now (table .entry))) ⌝ }
+    ensures { λ r. ⌜ r ≡ pos (refusal (now (block .entry)) (now (table .entry))) ⌝ }
 {
     if block::bad_head(block) {
         return 2;
@@ -49,17 +48,17 @@ pub fn refusal(block: &[i64], table: &[i64]) -> i64
 // ---- 9 to 11: what is asked about
 
 fn no_such_row(block: &[i64], table: &[i64], row: i64) -> bool
-    requires { ⌜ Head (lentOf (now block)) × Rows (lentOf (now block)) (now table) ⌝ }
-    ensures { λ r. ⌜ r ≡ noSuchRow (lentOf (now (block .entry))) (now (table .entry)) row ⌝ }
+    requires { ⌜ Head (now block) × Rows (now block) (now table) ⌝ }
+    ensures { λ r. ⌜ r ≡ noSuchRow (now (block .entry)) (now (table .entry)) row ⌝ }
 {
     !words::is_within(row, 1, words::rows_of(block, table) as i64)
 }
 
 // A word that is no shape's number is in no set.
 fn no_such_shape(block: &[i64], table: &[i64], row: i64, shape: i64) -> bool
-    requires { ⌜ Head (lentOf (now block)) × Table (lentOf (now block)) (now table)
-        × (noSuchRow (lentOf (now block)) (now table) row ≡ false) ⌝ }
-    ensures { λ r. ⌜ r ≡ noSuchShape (lentOf (now (block .entry))) (now (table .entry)) row shape ⌝ }
+    requires { ⌜ Head (now block) × Table (now block) (now table)
+        × (noSuchRow (now block) (now table) row ≡ false) ⌝ }
+    ensures { λ r. ⌜ r ≡ noSuchShape (now (block .entry)) (now (table .entry)) row shape ⌝ }
 {
     if !words::is_within(shape, 1, 32) {
         return true;
@@ -73,14 +72,14 @@ fn no_such_shape(block: &[i64], table: &[i64], row: i64, shape: i64) -> bool
 }
 
 fn no_such_dim(block: &[i64], dim: i64) -> bool
-    requires { ⌜ Head (lentOf (now block)) ⌝ }
-    ensures { λ r. ⌜ ((table : List ℤ) → r ≡ noSuchDim (lentOf (now (block .entry))) table dim) ⌝ }
+    requires { ⌜ Head (now block) ⌝ }
+    ensures { λ r. ⌜ ((table : List ℤ) → r ≡ noSuchDim (now (block .entry)) table dim) ⌝ }
 {
     dim < 0 || words::axes_of(block) as i64 <= dim
 }
 
 pub fn row_refusal(block: &[i64], table: &[i64], row: i64) -> i64
-    ensures { λ r. ⌜ r ≡ pos (refusalRow (lentOf (now (block .entry))) (now (table .entry)) row) ⌝ }
+    ensures { λ r. ⌜ r ≡ pos (refusalRow (now (block .entry)) (now (table .entry)) row) ⌝ }
 {
     let g = refusal(block, table);
     if g > 0 {
@@ -93,7 +92,7 @@ pub fn row_refusal(block: &[i64], table: &[i64], row: i64) -> i64
 }
 
 pub fn shape_refusal(block: &[i64], table: &[i64], row: i64, shape: i64) -> i64
-    ensures { λ r. ⌜ r ≡ pos (refusalShape (lentOf (now (block .entry))) (now (table .entry)) row shape) ⌝ }
+    ensures { λ r. ⌜ r ≡ pos (refusalShape (now (block .entry)) (now (table .entry)) row shape) ⌝ }
 {
     let g = row_refusal(block, table, row);
     if g > 0 {
@@ -106,7 +105,7 @@ pub fn shape_refusal(block: &[i64], table: &[i64], row: i64, shape: i64) -> i64
 }
 
 pub fn dim_refusal(block: &[i64], table: &[i64], row: i64, shape: i64, dim: i64) -> i64
-    ensures { λ r. ⌜ r ≡ pos (refusalDim (lentOf (now (block .entry))) (now (table .entry)) row shape dim) ⌝ }
+    ensures { λ r. ⌜ r ≡ pos (refusalDim (now (block .entry)) (now (table .entry)) row shape dim) ⌝ }
 {
     let g = shape_refusal(block, table, row, shape);
     if g > 0 {
@@ -119,7 +118,7 @@ pub fn dim_refusal(block: &[i64], table: &[i64], row: i64, shape: i64, dim: i64)
 }
 
 pub fn placement_refusal(block: &[i64], table: &[i64]) -> i64
-    ensures { λ r. ⌜ r ≡ pos (refusalPlacement (lentOf (now (block .entry))) (now (table .entry))) ⌝ }
+    ensures { λ r. ⌜ r ≡ pos (refusalPlacement (now (block .entry)) (now (table .entry))) ⌝ }
 {
     let g = refusal(block, table);
     if g > 0 {
@@ -140,8 +139,8 @@ pub struct Span {
 }
 
 pub fn row_span(block: &[i64], table: &[i64], row: i64) -> Span
-    ensures { λ r. ⌜ (r .start ≡ rowStart (lentOf (now (block .entry))) (now (table .entry)) row)
-        × (r .length ≡ length (rowSlice (lentOf (now (block .entry))) (now (table .entry)) row)) ⌝ }
+    ensures { λ r. ⌜ (r .start ≡ rowStart (now (block .entry)) (now (table .entry)) row)
+        × (r .length ≡ length (rowSlice (now (block .entry)) (now (table .entry)) row)) ⌝ }
 {
     if row_refusal(block, table, row) > 0 {
         return Span {
@@ -159,9 +158,9 @@ pub fn row_span(block: &[i64], table: &[i64], row: i64) -> Span
 
 // The part of the table where the row stands; empty when refused.
 pub fn row_slice<'a>(block: &[i64], table: &'a [i64], row: i64) -> &'a [i64]
-    ensures { λ r. ⌜ now r ≡ rowSlice (lentOf (now (block .entry))) (now (table .entry)) row ⌝ }
+    ensures { λ r. ⌜ now r ≡ rowSlice (now (block .entry)) (now (table .entry)) row ⌝ }
     ensures place { λ r. ⌜ (ptr r .0 ≡ ptr (table .entry) .0)
-        × (ptr r .1 ≡ ptr (table .entry) .1 + rowStart (lentOf (now (block .entry))) (now (table .entry)) row * 8) ⌝ }
+        × (ptr r .1 ≡ ptr (table .entry) .1 + rowStart (now (block .entry)) (now (table .entry)) row * 8) ⌝ }
 {
     let span = row_span(block, table, row);
     let from = span.start;

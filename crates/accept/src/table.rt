@@ -3,7 +3,7 @@ ghost use mathlib.Core.Path.{_≡_};
 ghost use mathlib.Core.Bool.{false};
 ghost use Prim.Native.Nat.{_<_, _≤_};
 ghost use Rattle.integers.specs.Below.{allBelow, allUpTo};
-ghost use Rattle.sheet.specs.Layout.{lentOf, axes, shapeSet, validRow};
+ghost use Rattle.sheet.specs.Layout.{axes, shapeSet, validRow};
 ghost use Rattle.sheet.specs.Placement.{rowFixed};
 ghost use Rattle.sheet.specs.Refusal.{badBox, badTableLength, badRow, notFixed};
 ghost use Rattle.sheet.specs.Accepted.{Count, Head, Rows, Table};
@@ -15,8 +15,8 @@ use words::Place;
 // ---- 5: the length
 
 pub fn bad_table_length(block: &[i64], table: &[i64]) -> bool
-    requires { ⌜ Head (lentOf (now block)) ⌝ }
-    ensures { λ r. ⌜ r ≡ badTableLength (lentOf (now (block .entry))) (now (table .entry)) ⌝ }
+    requires { ⌜ Head (now block) ⌝ }
+    ensures { λ r. ⌜ r ≡ badTableLength (now (block .entry)) (now (table .entry)) ⌝ }
 {
     let w = words::row_len(block);
     let n = words::rows_of(block, table);
@@ -29,8 +29,8 @@ pub fn bad_table_length(block: &[i64], table: &[i64]) -> bool
 // ---- 8: the rows
 
 pub fn bad_row(block: &[i64], table: &[i64]) -> bool
-    requires { ⌜ Head (lentOf (now block)) × Rows (lentOf (now block)) (now table) × (badBox (lentOf (now block)) ≡ false) ⌝ }
-    ensures { λ r. ⌜ r ≡ badRow (lentOf (now (block .entry))) (now (table .entry)) ⌝ }
+    requires { ⌜ Head (now block) × Rows (now block) (now table) × (badBox (now block) ≡ false) ⌝ }
+    ensures { λ r. ⌜ r ≡ badRow (now (block .entry)) (now (table .entry)) ⌝ }
 {
     let n = words::rows_of(block, table);
     let flags = boxed_shapes(block);
@@ -46,8 +46,8 @@ pub fn bad_row(block: &[i64], table: &[i64]) -> bool
 
 // For each shape, whether it has a box.
 fn boxed_shapes(block: &[i64]) -> [bool; 33]
-    requires { ⌜ Head (lentOf (now block)) × (badBox (lentOf (now block)) ≡ false) ⌝ }
-    ensures { λ r. ⌜ Flags (lentOf (now (block .entry))) r ⌝ }
+    requires { ⌜ Head (now block) × (badBox (now block) ≡ false) ⌝ }
+    ensures { λ r. ⌜ Flags (now (block .entry)) r ⌝ }
 {
     let n = words::boxes_of(block);
     let mut flags = [false; 33];
@@ -61,9 +61,9 @@ fn boxed_shapes(block: &[i64]) -> [bool; 33]
 }
 
 fn valid_row(block: &[i64], table: &[i64], i: Place, flags: [bool; 33]) -> bool
-    requires { ⌜ Head (lentOf (now block)) × Rows (lentOf (now block)) (now table) × RowPlace (lentOf (now block)) (now table) i
-        × Flags (lentOf (now block)) flags ⌝ }
-    ensures { λ r. ⌜ r ≡ validRow (lentOf (now (block .entry))) (now (table .entry)) (i .number) ⌝ }
+    requires { ⌜ Head (now block) × Rows (now block) (now table) × RowPlace (now block) (now table) i
+        × Flags (now block) flags ⌝ }
+    ensures { λ r. ⌜ r ≡ validRow (now (block .entry)) (now (table .entry)) (i .number) ⌝ }
 {
     if !range::valid_set(words::shape_set_of(block, table, i), 32) {
         return false;
@@ -72,9 +72,9 @@ fn valid_row(block: &[i64], table: &[i64], i: Place, flags: [bool; 33]) -> bool
 }
 
 fn shapes_boxed(block: &[i64], table: &[i64], i: Place, flags: [bool; 33]) -> bool
-    requires { ⌜ Head (lentOf (now block)) × Rows (lentOf (now block)) (now table) × RowPlace (lentOf (now block)) (now table) i
-        × Count (shapeSet (lentOf (now block)) (now table) (i .number)) × Flags (lentOf (now block)) flags ⌝ }
-    ensures { λ r. ⌜ r ≡ allUpTo 32 (shapeBoxed (lentOf (now (block .entry))) (now (table .entry)) (i .number)) ⌝ }
+    requires { ⌜ Head (now block) × Rows (now block) (now table) × RowPlace (now block) (now table) i
+        × Count (shapeSet (now block) (now table) (i .number)) × Flags (now block) flags ⌝ }
+    ensures { λ r. ⌜ r ≡ allUpTo 32 (shapeBoxed (now (block .entry)) (now (table .entry)) (i .number)) ⌝ }
 {
     let set = words::shapes_of(block, table, i);
     let mut s = 0;
@@ -91,17 +91,17 @@ fn shapes_boxed(block: &[i64], table: &[i64], i: Place, flags: [bool; 33]) -> bo
 }
 
 fn shape_boxed(block: &[i64], table: &[i64], i: Place, flags: [bool; 33], s: usize) -> bool
-    requires { ⌜ Head (lentOf (now block)) × Rows (lentOf (now block)) (now table) × RowPlace (lentOf (now block)) (now table) i
-        × Count (shapeSet (lentOf (now block)) (now table) (i .number)) × Flags (lentOf (now block)) flags × (1 ≤ s) × (s ≤ 32) ⌝ }
-    ensures { λ r. ⌜ r ≡ shapeBoxed (lentOf (now (block .entry))) (now (table .entry)) (i .number) s ⌝ }
+    requires { ⌜ Head (now block) × Rows (now block) (now table) × RowPlace (now block) (now table) i
+        × Count (shapeSet (now block) (now table) (i .number)) × Flags (now block) flags × (1 ≤ s) × (s ≤ 32) ⌝ }
+    ensures { λ r. ⌜ r ≡ shapeBoxed (now (block .entry)) (now (table .entry)) (i .number) s ⌝ }
 {
     !words::has_shape(block, table, i, s) || flags[s]
 }
 
 fn valid_ranges(block: &[i64], table: &[i64], i: Place) -> bool
-    requires { ⌜ Head (lentOf (now block)) × Rows (lentOf (now block)) (now table) × RowPlace (lentOf (now block)) (now table) i ⌝ }
-    ensures { λ r. ⌜ r ≡ allBelow (axes (lentOf (now (block .entry))))
-        (validRowRange (lentOf (now (block .entry))) (now (table .entry)) (i .number)) ⌝ }
+    requires { ⌜ Head (now block) × Rows (now block) (now table) × RowPlace (now block) (now table) i ⌝ }
+    ensures { λ r. ⌜ r ≡ allBelow (axes (now (block .entry)))
+        (validRowRange (now (block .entry)) (now (table .entry)) (i .number)) ⌝ }
 {
     let k = words::axes_of(block);
     let mut d = 0;
@@ -120,8 +120,8 @@ fn valid_ranges(block: &[i64], table: &[i64], i: Place) -> bool
 // ---- 12: a fixed placement
 
 pub fn not_fixed(block: &[i64], table: &[i64]) -> bool
-    requires { ⌜ Head (lentOf (now block)) × Table (lentOf (now block)) (now table) ⌝ }
-    ensures { λ r. ⌜ r ≡ notFixed (lentOf (now (block .entry))) (now (table .entry)) ⌝ }
+    requires { ⌜ Head (now block) × Table (now block) (now table) ⌝ }
+    ensures { λ r. ⌜ r ≡ notFixed (now (block .entry)) (now (table .entry)) ⌝ }
 {
     let n = words::rows_of(block, table);
     let mut i = 0;
@@ -135,17 +135,17 @@ pub fn not_fixed(block: &[i64], table: &[i64]) -> bool
 }
 
 fn row_fixed(block: &[i64], table: &[i64], i: Place) -> bool
-    requires { ⌜ Head (lentOf (now block)) × Rows (lentOf (now block)) (now table) × RowPlace (lentOf (now block)) (now table) i
-        × Count (shapeSet (lentOf (now block)) (now table) (i .number)) ⌝ }
-    ensures { λ r. ⌜ r ≡ rowFixed (lentOf (now (block .entry))) (now (table .entry)) (i .number) ⌝ }
+    requires { ⌜ Head (now block) × Rows (now block) (now table) × RowPlace (now block) (now table) i
+        × Count (shapeSet (now block) (now table) (i .number)) ⌝ }
+    ensures { λ r. ⌜ r ≡ rowFixed (now (block .entry)) (now (table .entry)) (i .number) ⌝ }
 {
     u32::count_ones(words::shapes_of(block, table, i)) == 1 && ranges_fixed(block, table, i)
 }
 
 fn ranges_fixed(block: &[i64], table: &[i64], i: Place) -> bool
-    requires { ⌜ Head (lentOf (now block)) × Rows (lentOf (now block)) (now table) × RowPlace (lentOf (now block)) (now table) i ⌝ }
-    ensures { λ r. ⌜ r ≡ allBelow (axes (lentOf (now (block .entry))))
-        (fixedRange (lentOf (now (block .entry))) (now (table .entry)) (i .number)) ⌝ }
+    requires { ⌜ Head (now block) × Rows (now block) (now table) × RowPlace (now block) (now table) i ⌝ }
+    ensures { λ r. ⌜ r ≡ allBelow (axes (now (block .entry)))
+        (fixedRange (now (block .entry)) (now (table .entry)) (i .number)) ⌝ }
 {
     let k = words::axes_of(block);
     let mut d = 0;

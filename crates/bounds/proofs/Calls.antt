@@ -10,14 +10,13 @@ use lib.Signed.{leZ}
 use Rattle.integers.specs.Integer.{nat}
 use Rattle.integers.proofs.Booleans.{not-false, and-true}
 use Rattle.integers.proofs.Ints.{ints, disjoint}
-use Rattle.integers.proofs.Sets.{member-ge-1, small-set}
-use Rattle.sheet.specs.Layout.{Lent, axes, shapeSet, hasShape}
-use Rattle.sheet.specs.Refusal.{_when_, noSuchShape, noSuchDim, refusal, refusalRow, refusalShape, refusalDim}
+use Rattle.sheet.specs.Layout.{axes}
+use Rattle.sheet.specs.Refusal.{_when_, noSuchDim, refusalShape, refusalDim}
 use Rattle.sheet.specs.Accepted.{Count}
 use Rattle.sheet.specs.Answer.{boundAnswer}
 use Rattle.sheet.specs.declared.Bound.the-variants as B
-use Rattle.sheet.proofs.Accepted.{when-zero, else-zero, accepted-head, accepted-rows, accepted-table}
-use Rattle.accept.proofs.Asked.{RowNumber, row-number, row-accepted}
+use Rattle.sheet.proofs.Accepted.{when-zero, else-zero, accepted-head}
+use Rattle.accept.proofs.Shapes.{ShapeAsked, shape-asked}
 use Rattle.bounds.specs.declared.Found.the-variants as F
 use Rattle.bounds.specs.Search.{coordinate}
 
@@ -25,44 +24,19 @@ use Rattle.bounds.specs.Search.{coordinate}
 pub ap₃ : {A B C D : Type 0} (f : A → B → C → D) {a a' : A} {b b' : B} {c c' : C} → a ≡ a' → b ≡ b' → c ≡ c' → f a b c ≡ f a' b' c'
 ap₃ f p q r = rw (p, q, r)
 
-pub record Asked (lent : Lent) (t : List ℤ) (row shape dim : ℤ) : Type 0 where
-  pub accepted : refusal lent t ≡ 0
-  pub row-in : RowNumber lent t row
-  pub shape-in : Count shape
+pub record DimAsked (block t : List ℤ) (row shape dim : ℤ) : Type 0 where
+  pub shape-of : ShapeAsked block t row shape
   pub dim-in : Count dim
-  pub dim-below : nat dim < axes lent
+  pub dim-below : nat dim < axes block
 
-module _ (lent : Lent) (t : List ℤ) (row shape dim : ℤ) (e : refusalDim lent t row shape dim ≡ 0) where
-  parts : (refusalRow lent t row ≡ 0) × (noSuchShape lent t row shape ≡ false) × (noSuchDim lent t dim ≡ false)
-  unfolding refusalDim refusalShape
-  parts =
-      let a = else-zero (refusalShape lent t row shape) (11 when noSuchDim lent t dim) e in
-      let b = else-zero (refusalRow lent t row) (10 when noSuchShape lent t row shape) (a .0) in
-      (b .0, when-zero 9 (noSuchShape lent t row shape) (b .1), when-zero 10 (noSuchDim lent t dim) (a .1))
-
-  number : RowNumber lent t row
-  number = let r = row-accepted lent t row (parts .0) in row-number lent t row (accepted-rows lent t (r .0)) (r .1)
-
-  shape-count : Count shape
-  unfolding noSuchShape hasShape
-  shape-count =
-      let r = row-accepted lent t row (parts .0) in
-      let h = not-false (parts .1) in
-      let a = member-ge-1 (shapeSet lent t (nat row)) h in
-      let b = small-set {n = 32} (accepted-table lent t (r .0) .sets-upto (nat row) (number .from) (number .upto)) h in
-      record { from = omega (ints, disjoint shape); upto = omega (ints, disjoint shape) }
-
-  dim-is : Count dim × (nat dim < axes lent)
-  unfolding noSuchDim
-  dim-is =
-      let r = row-accepted lent t row (parts .0) in
-      let w = and-true {a = leZ (pos 0) dim} (not-false (parts .2)) in
-      let f = accepted-head lent t (r .0) .few-axes in
-      (record { from = omega ints; upto = omega ints }, omega (ints, disjoint dim))
-
-  pub asked : Asked lent t row shape dim
-  asked =
-      record { accepted = row-accepted lent t row (parts .0) .0; row-in = number; shape-in = shape-count; dim-in = dim-is .0; dim-below = dim-is .1 }
+pub dim-asked : (block t : List ℤ) (row shape dim : ℤ) → refusalDim block t row shape dim ≡ 0 → DimAsked block t row shape dim
+unfolding refusalDim noSuchDim
+dim-asked block t row shape dim e =
+    let a = else-zero (refusalShape block t row shape) (11 when noSuchDim block t dim) e in
+    let s = shape-asked block t row shape (a .0) in
+    let w = and-true {a = leZ (pos 0) dim} (not-false (when-zero 10 (noSuchDim block t dim) (a .1))) in
+    let f = accepted-head block t (s .accepted) .few-axes in
+    record { shape-of = s; dim-in = record { from = omega ints; upto = omega ints }; dim-below = omega (ints, disjoint dim) }
 
 -- ---- the answers
 pub answer-refused : {g : ℕ} (o : Option ℤ) → 0 < g → boundAnswer g o ≡ B.Refused (pos g)

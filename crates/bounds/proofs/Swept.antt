@@ -11,11 +11,11 @@ use lib.IntN.{ℤ}
 use lib.Signed.{_≤ℤ_}
 use Rattle.integers.specs.Words.{word}
 use Rattle.integers.proofs.Booleans.{clash, and-true, true-and, not-true}
-use Rattle.sheet.specs.Layout.{Lent, axes}
+use Rattle.sheet.specs.Layout.{axes}
 use Rattle.sheet.specs.Allowed.{forbidden}
-use Rattle.region.specs.declared.Area.{Area}
-use Rattle.region.specs.Area.{inArea, Small}
-use Rattle.region.proofs.Areas.{area-at, area-by}
+use Rattle.points.specs.declared.Area.{Area}
+use Rattle.points.specs.Area.{inArea, Small}
+use Rattle.points.proofs.Areas.{area-at, area-by}
 use Rattle.sweep.specs.Point.{InBox, Near, turn, turned, turnedEnd}
 use Rattle.sweep.specs.Rotation.{rotation}
 use Rattle.sweep.specs.declared.Sweep.{Sweep}
@@ -41,20 +41,20 @@ turn-ahead false y z h = h
 
 -- a sweep for dimension d, all of whose jumps were over points that are forbidden to row i with shape s. Its points are turned: a point q of it
 -- stands for the point turned flip q
-abbrev pub Swept : Lent → List ℤ → ℕ → ℕ → ℕ → Bool → List ℤ → List ℤ → Sweep → Type 0
-Swept lent t i s d flip first end w =
-    Reached (axes lent) (rotation (axes lent) d) first end (λ q. forbidden lent t i s (turned flip q) ≡ true) w
+abbrev pub Swept : List ℤ → List ℤ → ℕ → ℕ → ℕ → Bool → List ℤ → List ℤ → Sweep → Type 0
+Swept block t i s d flip first end w =
+    Reached (axes block) (rotation (axes block) d) first end (λ q. forbidden block t i s (turned flip q) ≡ true) w
 
 -- how many points come after its candidate
-abbrev pub pointsLeft : Lent → ℕ → List ℤ → List ℤ → Sweep → ℕ
-pointsLeft lent d first end w = pointsAfter (rotation (axes lent) d) first end (axes lent) (w .candidate)
+abbrev pub pointsLeft : List ℤ → ℕ → List ℤ → List ℤ → Sweep → ℕ
+pointsLeft block d first end w = pointsAfter (rotation (axes block) d) first end (axes block) (w .candidate)
 
 -- what is swept for dimension d: the area a, which has a point, from first to end when it is turned
-pub record Task (lent : Lent) (d : ℕ) (flip : Bool) (a : Area) (first end : List ℤ) : Type 0 where
-  pub few : axes lent ≤ 4
-  pub below : d < axes lent
+pub record Task (block : List ℤ) (d : ℕ) (flip : Bool) (a : Area) (first end : List ℤ) : Type 0 where
+  pub few : axes block ≤ 4
+  pub below : d < axes block
   pub small : Small a
-  pub filled : inArea (axes lent) a (a .low) ≡ true
+  pub filled : inArea (axes block) a (a .low) ≡ true
   pub turns : TurnedBox flip (a .low) (a .high) first end
   pub first-long : length first ≡ 4
   pub end-long : length end ≡ 4
@@ -70,7 +70,7 @@ near-high s = near-of (omega arith) (s .highs)
 pub near-last : (flip : Bool) (x : Area) {last : List ℤ} → Small x → last ≡ turnedEnd flip (x .low) (x .high) → Near last
 near-last flip x s e = near-end {low = x .low} {high = x .high} (record { start = refl; end = e }) (near-low s) (near-high s)
 
-module _ {lent : Lent} {d : ℕ} {flip : Bool} {a : Area} {first end : List ℤ} (task : Task lent d flip a first end) where
+module _ {block : List ℤ} {d : ℕ} {flip : Bool} {a : Area} {first end : List ℤ} (task : Task block d flip a first end) where
   pub task-start-near : Near first
   task-start-near = near-start (task .turns) (near-low (task .small)) (near-high (task .small))
 
@@ -79,44 +79,44 @@ module _ {lent : Lent} {d : ℕ} {flip : Bool} {a : Area} {first end : List ℤ}
 
   module _ (t : List ℤ) (i s : ℕ) where
     abbrev Bad : List ℤ → Type 0
-    Bad q = forbidden lent t i s (turned flip q) ≡ true
+    Bad q = forbidden block t i s (turned flip q) ≡ true
 
-    theorem : SweepTheorem (axes lent) (rotation (axes lent) d) first end Bad
+    theorem : SweepTheorem (axes block) (rotation (axes block) d) first end Bad
     theorem =
         sweep-theorem
         (rotation-range (task .few) (task .below) (omega (arith, task .few, task .first-long)) (omega (arith, task .few, task .end-long))
         (box-filled (task .turns) (area-box (a .low) (task .filled))))
         Bad
 
-    pub swept-start : {w : Sweep} → w ≡ begun first end → Swept lent t i s d flip first end w
+    pub swept-start : {w : Sweep} → w ≡ begun first end → Swept block t i s d flip first end w
     swept-start e = start e
 
     -- a point of the area, turned, is one of the sweep's range
-    in-range : (p : List ℤ) → inArea (axes lent) a p ≡ true → InBox (axes lent) first end (turned flip p)
+    in-range : (p : List ℤ) → inArea (axes block) a p ≡ true → InBox (axes block) first end (turned flip p)
     in-range p e = box-in (task .turns) (rw turned-turned (area-box p e))
 
-    not-bad : (p : List ℤ) → forbidden lent t i s p ≡ false → Bad (turned flip p) → ⊥
-    not-bad p e b = clash (ap (forbidden lent t i s) (sym (turned-turned flip p)) ∙ b) e
+    not-bad : (p : List ℤ) → forbidden block t i s p ≡ false → Bad (turned flip p) → ⊥
+    not-bad p e b = clash (ap (forbidden block t i s) (sym (turned-turned flip p)) ∙ b) e
 
-    free-parts : (p : List ℤ) → freeIn lent t i s a p ≡ true → (inArea (axes lent) a p ≡ true) × (forbidden lent t i s p ≡ false)
+    free-parts : (p : List ℤ) → freeIn block t i s a p ≡ true → (inArea (axes block) a p ≡ true) × (forbidden block t i s p ≡ false)
     unfolding freeIn
     free-parts p e = let w = and-true e in (w .0, not-true (w .1))
 
-    free-by : (p : List ℤ) → inArea (axes lent) a p ≡ true → forbidden lent t i s p ≡ false → freeIn lent t i s a p ≡ true
+    free-by : (p : List ℤ) → inArea (axes block) a p ≡ true → forbidden block t i s p ≡ false → freeIn block t i s a p ≡ true
     unfolding freeIn
     free-by p e f = true-and e (ap not f)
 
-    module _ {w : Sweep} (r : Swept lent t i s d flip first end w) where
+    module _ {w : Sweep} (r : Swept block t i s d flip first end w) where
       pub swept-near : w .live ≡ true → Near (w .candidate)
       swept-near l = candidate-near theorem r l task-start-near task-end-near
 
       -- p is the point that the candidate stands for
       module _ {p : List ℤ} (point : p ≡ turned flip (w .candidate)) (live : w .live ≡ true) where
-        pub swept-in : inArea (axes lent) a p ≡ true
+        pub swept-in : inArea (axes block) a p ≡ true
         swept-in =
-            subst (λ (q : List ℤ). inArea (axes lent) a q ≡ true) (sym point) (box-area _ (box-out (task .turns) (theorem .inside r live)))
+            subst (λ (q : List ℤ). inArea (axes block) a q ≡ true) (sym point) (box-area _ (box-out (task .turns) (theorem .inside r live)))
 
-        pub swept-found : forbidden lent t i s p ≡ false → Sighted flip lent t i s a d (record { found = true; point = p })
+        pub swept-found : forbidden block t i s p ≡ false → Sighted flip block t i s a d (record { found = true; point = p })
         swept-found e =
             record {
               free = λ _. free-by p swept-in e;
@@ -129,32 +129,32 @@ module _ {lent : Lent} {d : ℕ} {flip : Bool} {a : Area} {first end : List ℤ}
             }
 
         -- x is an area around p, all of whose points are forbidden, and ends at last when it is turned
-        module _ (x : Area) (around : inArea (axes lent) x p ≡ true)
-            (only : (q : List ℤ) → inArea (axes lent) x q ≡ true → forbidden lent t i s q ≡ true)
+        module _ (x : Area) (around : inArea (axes block) x p ≡ true)
+            (only : (q : List ℤ) → inArea (axes block) x q ≡ true → forbidden block t i s q ≡ true)
             {last : List ℤ} (ends : last ≡ turnedEnd flip (x .low) (x .high)) (long : length last ≡ 4)
-            {next : Sweep} (moves : next ≡ advance (rotation (axes lent) d) first end (axes lent) (jumpedPast w last)) where
+            {next : Sweep} (moves : next ≡ advance (rotation (axes block) d) first end (axes block) (jumpedPast w last)) where
           turned-x : TurnedBox flip (x .low) (x .high) (turnedEnd flip (x .high) (x .low)) last
           turned-x = record { start = refl; end = ends }
 
-          step : Step (axes lent) (rotation (axes lent) d) first end Bad w next
+          step : Step (axes block) (rotation (axes block) d) first end Bad w next
           step =
               record {
                 live = live;
                 first = turnedEnd flip (x .high) (x .low);
                 last = last;
                 long = omega (arith, task .few, long);
-                around = box-in turned-x (subst (InBox (axes lent) (x .low) (x .high)) point (area-box p around));
+                around = box-in turned-x (subst (InBox (axes block) (x .low) (x .high)) point (area-box p around));
                 bad = λ q b c. only (turned flip q) (box-area (turned flip q) (box-out turned-x c));
                 next = moves;
               }
 
-          pub swept-on : Swept lent t i s d flip first end next
+          pub swept-on : Swept block t i s d flip first end next
           swept-on = onward r step
 
-          pub swept-falls : next .live ≡ true → pointsLeft lent d first end next < pointsLeft lent d first end w
+          pub swept-falls : next .live ≡ true → pointsLeft block d first end next < pointsLeft block d first end w
           swept-falls l = theorem .falls r step l
 
-      pub swept-none : w .live ≡ false → (q : List ℤ) → Sighted flip lent t i s a d (record { found = false; point = q })
+      pub swept-none : w .live ≡ false → (q : List ℤ) → Sighted flip block t i s a d (record { found = false; point = q })
       swept-none l q =
           record {
             free = λ u. absurd (clash u refl);

@@ -5,7 +5,6 @@ ghost use mathlib.Core.List.{[], _∷_};
 ghost use lib.IntN.{pos};
 ghost use lib.ListN.{length};
 ghost use Rattle.integers.specs.Integer.{nat};
-ghost use Rattle.sheet.specs.Layout.{lentOf};
 ghost use Rattle.sheet.specs.Allowed.{allowed};
 ghost use Rattle.sheet.specs.Placement.{good};
 ghost use Rattle.sheet.specs.Bounds.{leastOf, greatestOf};
@@ -104,14 +103,14 @@ fn settle_finding(x: Settling) -> i64
 
 #[no_mangle]
 pub extern "C" fn zk_refusal(block: &[i64], table: &[i64]) -> i64
-    ensures { λ r. ⌜ r ≡ pos (refusal (lentOf (now (block .entry))) (now (table .entry))) ⌝ }
+    ensures { λ r. ⌜ r ≡ pos (refusal (now (block .entry)) (now (table .entry))) ⌝ }
 {
     accept::refusal(block, table)
 }
 
 #[no_mangle]
 pub extern "C" fn zk_row_refusal(block: &[i64], table: &[i64], row: i64) -> i64
-    ensures { λ r. ⌜ r ≡ pos (refusalRow (lentOf (now (block .entry))) (now (table .entry)) row) ⌝ }
+    ensures { λ r. ⌜ r ≡ pos (refusalRow (now (block .entry)) (now (table .entry)) row) ⌝ }
 {
     accept::row_refusal(block, table, row)
 }
@@ -127,16 +126,16 @@ pub extern "C" fn zk_point_allowed(
     p2: i64,
     p3: i64,
 ) -> i64
-    ensures { λ r. ⌜ r ≡ pointFinding (pointAnswer (refusalShape (lentOf (now (block .entry))) (now (table .entry)) row shape)
-        (allowed (lentOf (now (block .entry))) (now (table .entry)) (nat row) (nat shape) (p0 ∷ p1 ∷ p2 ∷ p3 ∷ []))) ⌝ }
+    ensures { λ r. ⌜ r ≡ pointFinding (pointAnswer (refusalShape (now (block .entry)) (now (table .entry)) row shape)
+        (allowed (now (block .entry)) (now (table .entry)) (nat row) (nat shape) (p0 ∷ p1 ∷ p2 ∷ p3 ∷ []))) ⌝ }
 {
     point_finding(placement::point_allowed(block, table, row, shape, [p0, p1, p2, p3]))
 }
 
 #[no_mangle]
 pub extern "C" fn zk_check_placement(block: &[i64], table: &[i64]) -> i64
-    ensures { λ r. ⌜ r ≡ verdictFinding (verdictAnswer (refusalPlacement (lentOf (now (block .entry))) (now (table .entry)))
-        (good (lentOf (now (block .entry))) (now (table .entry)))) ⌝ }
+    ensures { λ r. ⌜ r ≡ verdictFinding (verdictAnswer (refusalPlacement (now (block .entry)) (now (table .entry)))
+        (good (now (block .entry)) (now (table .entry)))) ⌝ }
 {
     verdict_finding(placement::check_placement(block, table))
 }
@@ -149,8 +148,8 @@ pub extern "C" fn zk_least(
     shape: i64,
     dimension: i64,
 ) -> BoundFinding
-    ensures { λ r. ⌜ r ≡ boundFinding (boundAnswer (refusalDim (lentOf (now (block .entry))) (now (table .entry)) row shape dimension)
-        (leastOf (lentOf (now (block .entry))) (now (table .entry)) (nat row) (nat shape) (nat dimension))) ⌝ }
+    ensures { λ r. ⌜ r ≡ boundFinding (boundAnswer (refusalDim (now (block .entry)) (now (table .entry)) row shape dimension)
+        (leastOf (now (block .entry)) (now (table .entry)) (nat row) (nat shape) (nat dimension))) ⌝ }
 {
     bound_finding(bounds::least(block, table, row, shape, dimension))
 }
@@ -163,36 +162,36 @@ pub extern "C" fn zk_greatest(
     shape: i64,
     dimension: i64,
 ) -> BoundFinding
-    ensures { λ r. ⌜ r ≡ boundFinding (boundAnswer (refusalDim (lentOf (now (block .entry))) (now (table .entry)) row shape dimension)
-        (greatestOf (lentOf (now (block .entry))) (now (table .entry)) (nat row) (nat shape) (nat dimension))) ⌝ }
+    ensures { λ r. ⌜ r ≡ boundFinding (boundAnswer (refusalDim (now (block .entry)) (now (table .entry)) row shape dimension)
+        (greatestOf (now (block .entry)) (now (table .entry)) (nat row) (nat shape) (nat dimension))) ⌝ }
 {
     bound_finding(bounds::greatest(block, table, row, shape, dimension))
 }
 
 #[no_mangle]
 pub extern "C" fn zk_narrow(block: &[i64], table: &mut [i64], row: i64) -> i64
-    ensures { λ r. ⌜ (r ≡ narrowFinding (narrowAnswer (refusalRow (lentOf (now (block .entry))) (now (table .entry)) row)
-        (narrowOf (lentOf (now (block .entry))) (now (table .entry)) (nat row))))
-        × (now (table .exit) ≡ tableAfter (refusalRow (lentOf (now (block .entry))) (now (table .entry)) row) (now (table .entry))
-        (narrowOf (lentOf (now (block .entry))) (now (table .entry)) (nat row))) ⌝ }
+    ensures { λ r. ⌜ (r ≡ narrowFinding (narrowAnswer (refusalRow (now (block .entry)) (now (table .entry)) row)
+        (narrowOf (now (block .entry)) (now (table .entry)) (nat row))))
+        × (now (table .exit) ≡ tableAfter (refusalRow (now (block .entry)) (now (table .entry)) row) (now (table .entry))
+        (narrowOf (now (block .entry)) (now (table .entry)) (nat row))) ⌝ }
 {
     narrow_finding(narrow::narrow(block, table, row))
 }
 
 #[no_mangle]
 pub extern "C" fn zk_settle(block: &[i64], table: &mut [i64]) -> i64
-    ensures { λ r. ⌜ (r ≡ settleFinding (settleAnswer (refusal (lentOf (now (block .entry))) (now (table .entry)))
-        (settleOf (lentOf (now (block .entry))) (now (table .entry)))))
-        × (now (table .exit) ≡ tableAfter (refusal (lentOf (now (block .entry))) (now (table .entry))) (now (table .entry))
-        (settleOf (lentOf (now (block .entry))) (now (table .entry)))) ⌝ }
+    ensures { λ r. ⌜ (r ≡ settleFinding (settleAnswer (refusal (now (block .entry)) (now (table .entry)))
+        (settleOf (now (block .entry)) (now (table .entry)))))
+        × (now (table .exit) ≡ tableAfter (refusal (now (block .entry)) (now (table .entry))) (now (table .entry))
+        (settleOf (now (block .entry)) (now (table .entry)))) ⌝ }
 {
     settle_finding(settle::settle(block, table))
 }
 
 #[no_mangle]
 pub extern "C" fn zk_row_span(block: &[i64], table: &[i64], row: i64) -> RowSpan
-    ensures { λ r. ⌜ (r .start ≡ pos (rowStart (lentOf (now (block .entry))) (now (table .entry)) row))
-        × (r .length ≡ pos (length (rowSlice (lentOf (now (block .entry))) (now (table .entry)) row))) ⌝ }
+    ensures { λ r. ⌜ (r .start ≡ pos (rowStart (now (block .entry)) (now (table .entry)) row))
+        × (r .length ≡ pos (length (rowSlice (now (block .entry)) (now (table .entry)) row))) ⌝ }
 {
     let span = accept::row_span(block, table, row);
     RowSpan {

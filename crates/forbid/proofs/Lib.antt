@@ -1,3 +1,5 @@
-pub mod Pairs
+pub mod Intervals
+pub mod Solids
 pub mod Regions
 pub mod Rows
+pub mod Chains

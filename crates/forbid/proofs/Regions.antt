@@ -8,9 +8,9 @@ use lib.IntN.{ℤ}
 use Rattle.integers.specs.Below.{anyBelow}
 use Rattle.integers.proofs.Booleans.{clash, and-true, true-and, false-or}
 use Rattle.integers.proofs.Below.{any-true, any-more}
-use Rattle.region.specs.declared.Area.{Area}
-use Rattle.region.specs.Area.{coordinates, inArea, InField, Cuts, fieldArea}
-use Rattle.region.proofs.Areas.{in-field, small-field}
+use Rattle.points.specs.declared.Area.{Area}
+use Rattle.points.specs.Area.{coordinates, inArea, InField, Cuts, fieldArea}
+use Rattle.points.proofs.Areas.{in-field, small-field}
 use Rattle.forbid.specs.declared.Region.{Region}
 use Rattle.forbid.specs.Region.{noRegion, Forbids}
 

@@ -1,2 +1,3 @@
+pub mod Interval
 pub mod Pair
 pub mod Region

@@ -1,54 +1,54 @@
--- One box of a row against one box of another: what the code for a pair of boxes requires and promises. Assumes nothing.
+-- One solid of a row against one solid of another: what the code for a pair requires and promises. Assumes nothing.
 use mathlib.Core.Path.{_≡_}
 use mathlib.Core.Bool.{Bool}
 use mathlib.Core.List.{List}
-use Prim.Native.Nat.{ℕ}
-use lib.IntN.{ℤ, pos, _+ℤ_, _-ℤ_}
+use Prim.Native.Nat.{ℕ, _<_}
+use lib.IntN.{ℤ}
 use Rattle.integers.specs.Integer.{within, Within}
-use Rattle.integers.specs.Below.{_⇒_}
-use Rattle.sheet.specs.Layout.{Lent, offset, size, namesDim}
-use Rattle.sheet.specs.Allowed.{forbidFrom, forbidTo, pairForbids}
+use Rattle.integers.specs.Below.{_⇒_, allBelow}
+use Rattle.integers.specs.Words.{word}
+use Rattle.sheet.specs.Layout.{dims, low, high, namesDim}
 use Rattle.sheet.specs.Accepted.{Block, Table}
-use Rattle.words.specs.Places.{BoxPlace, RulePlace, RowPlace}
-use Rattle.region.specs.Area.{reach}
+use Rattle.words.specs.Places.{RulePlace, RowPlace}
+use Rattle.points.specs.Area.{reach}
+use Rattle.outline.specs.declared.solid.Extent.{Extent}
+use Rattle.outline.specs.Places.{solids, startOf, endOf}
+use Rattle.outline.specs.Solids.{Modest}
 use Rattle.forbid.specs.declared.pair.Pair.{Pair}
-use Rattle.forbid.specs.declared.pair.Interval.{Interval}
+use Rattle.forbid.specs.declared.interval.Interval.{Interval}
+use Rattle.forbid.specs.Interval.{forbidFirst, forbidLast}
 
-module _ (lent : Lent) where
-  -- the first and the last number that box c forbids to box b in dimension d, where the row of c is at most at max and at least at min
-  unfoldable pub fromMax : ℕ → ℕ → ℕ → ℤ → ℤ
-  fromMax b c d max = max +ℤ offset lent c d -ℤ offset lent b d -ℤ size lent b d +ℤ pos 1
+-- solid x in dimension d
+abbrev pub extentOf : List ℤ → ℕ → ℕ → Extent
+extentOf o x d = record { start = startOf o x d; end = endOf o x d }
 
-  unfoldable pub toMin : ℕ → ℕ → ℕ → ℤ → ℤ
-  toMin b c d min = min +ℤ offset lent c d +ℤ size lent c d -ℤ offset lent b d -ℤ pos 1
+module _ (block t o : List ℤ) (x : Pair) where
+  -- the pair's records stand where it says, in an accepted sheet, and the solids' bounds are near
+  pub record PairPlaces : Type 0 where
+    pub accepted : Block block
+    pub table : Table block t
+    pub rule : RulePlace block (x .r)
+    pub other-row : RowPlace block t (x .j)
+    pub own-few : x .own < solids
+    pub own : Modest block o (x .own)
+    pub other-few : x .other < solids
+    pub other : Modest block o (x .other)
 
-  module _ (t : List ℤ) (x : Pair) where
-    -- the pair's records stand where it says, in an accepted sheet
-    pub record PairPlaces : Type 0 where
-      pub block : Block lent
-      pub table : Table lent t
-      pub rule : RulePlace lent (x .r)
-      pub row : RowPlace lent t (x .i)
-      pub own : BoxPlace lent (x .b)
-      pub other-row : RowPlace lent t (x .j)
-      pub other : BoxPlace lent (x .c)
+  -- the pair's interval in dimension d, and the points that it forbids
+  abbrev pub fromOf : ℕ → ℤ
+  fromOf d = forbidFirst (extentOf o (x .own) d) (extentOf o (x .other) d) (high block t (x .j .number) d)
 
-    -- document 01's definitions, of the pair: its interval in dimension d, and the points that it forbids
-    abbrev pub fromOf : ℕ → ℤ
-    fromOf d = forbidFrom lent t (x .r .number) (x .i .number) (x .b .number) (x .j .number) (x .c .number) d
+  abbrev pub toOf : ℕ → ℤ
+  toOf d = forbidLast (extentOf o (x .own) d) (extentOf o (x .other) d) (low block t (x .j .number) d)
 
-    abbrev pub toOf : ℕ → ℤ
-    toOf d = forbidTo lent t (x .r .number) (x .i .number) (x .b .number) (x .j .number) (x .c .number) d
+  unfoldable pub sideForbids : ℕ → ℤ → Bool
+  sideForbids d z = namesDim block (x .r .number) d ⇒ within (fromOf d) (toOf d) z
 
-    abbrev pub forbiddenBy : List ℤ → Bool
-    forbiddenBy p = pairForbids lent t (x .r .number) p (x .i .number) (x .b .number) (x .j .number) (x .c .number)
+  unfoldable pub solidsForbid : List ℤ → Bool
+  solidsForbid p = allBelow (dims block) (λ d. sideForbids d (word p d))
 
-    -- the pair forbids z in dimension d, if the rule names d
-    unfoldable pub sideForbids : ℕ → ℤ → Bool
-    sideForbids d z = namesDim lent (x .r .number) d ⇒ within (fromOf d) (toOf d) z
-
-    pub record IsInterval (d : ℕ) (y : Interval) : Type 0 where
-      pub from : y .from ≡ fromOf d
-      pub to : y .to ≡ toOf d
-      pub from-within : Within reach (y .from)
-      pub to-within : Within reach (y .to)
+  pub record IsInterval (d : ℕ) (y : Interval) : Type 0 where
+    pub from : y .from ≡ fromOf d
+    pub to : y .to ≡ toOf d
+    pub from-within : Within reach (y .from)
+    pub to-within : Within reach (y .to)

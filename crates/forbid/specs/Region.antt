@@ -6,12 +6,13 @@ use Prim.Native.Nat.{ℕ, _≤_}
 use lib.Dec.{eqb}
 use lib.IntN.{ℤ}
 use Rattle.integers.specs.Below.{anyUpTo}
-use Rattle.sheet.specs.Layout.{Lent, axes, isNonOverlap, namesRow, rows, hasOnly}
+use Rattle.sheet.specs.Layout.{axes, isNonOverlap, namesRow, rows, hasOnly}
 use Rattle.sheet.specs.Allowed.{rowForbids}
-use Rattle.sheet.specs.Accepted.{Block, Table}
+use Rattle.sheet.specs.Accepted.{Boxed, Block, Table}
 use Rattle.words.specs.declared.Place.{Place}
-use Rattle.words.specs.Places.{RowPlace}
-use Rattle.region.specs.Area.{inArea, Small, InField, fieldArea}
+use Rattle.words.specs.Places.{RulePlace, RowPlace}
+use Rattle.points.specs.Area.{inArea, Small, InField, fieldArea}
+use Rattle.outline.specs.Outline.{Outline}
 use Rattle.forbid.specs.declared.Region.{Region}
 
 -- the region is hit exactly when p is F, and then its area holds p and only points that are F
@@ -24,22 +25,29 @@ pub record Forbids (k : ℕ) (F : List ℤ → Bool) (p : List ℤ) (x : Region)
 unfoldable pub noRegion : Region
 noRegion = record { hit = false; area = fieldArea }
 
-module _ (lent : Lent) (t : List ℤ) where
-  -- row i of an accepted sheet, and a point near enough
-  pub record Asked (i : Place) (p : List ℤ) : Type 0 where
-    pub block : Block lent
-    pub table : Table lent t
-    pub row : RowPlace lent t i
-    pub near : InField (axes lent) p
+module _ (block : List ℤ) (t : List ℤ) where
+  -- a shape of an accepted sheet, whose outline is o, and a point near enough
+  pub record Asked (o : List ℤ) (s : ℕ) (p : List ℤ) : Type 0 where
+    pub accepted : Block block
+    pub table : Table block t
+    pub outline : Outline block o
+    pub own : Boxed block s
+    pub near : InField (axes block) p
+
+  -- the same, and rule r and another row
+  pub record Versus (o : List ℤ) (r : Place) (s : ℕ) (j : Place) (p : List ℤ) : Type 0 where
+    pub asked : Asked o s p
+    pub rule : RulePlace block r
+    pub row : RowPlace block t j
 
   -- x is the one shape of row j, or 0 where its set holds several
   pub record OnlyShape (j x : ℕ) : Type 0 where
-    pub is : (s : ℕ) → 1 ≤ s → hasOnly lent t j s ≡ eqb x s
+    pub is : (s : ℕ) → 1 ≤ s → hasOnly block t j s ≡ eqb x s
     pub upto : x ≤ 32
 
   -- some row forbids p by rule r; the rule is one of kind 1 that names row i
   unfoldable pub rowsForbid : ℕ → ℕ → ℕ → List ℤ → Bool
-  rowsForbid r i s p = anyUpTo (rows lent t) (rowForbids lent t r p i s)
+  rowsForbid r i s p = anyUpTo (rows block t) (rowForbids block t r p i s)
 
   unfoldable pub ruleForbids : ℕ → ℕ → ℕ → List ℤ → Bool
-  ruleForbids i s r p = isNonOverlap lent r && namesRow lent r i && rowsForbid r i s p
+  ruleForbids i s r p = isNonOverlap block r && namesRow block r i && rowsForbid r i s p

@@ -1,90 +1,147 @@
-// One box of a row against one box of another: what the pair forbids.
+// One solid of a row against one solid of another: what the pair forbids by a rule. Solids are boxes, and hulls that stand for all boxes of
+// a shape.
 ghost use mathlib.Core.Path.{_≡_};
+ghost use mathlib.Core.Bool.{true, false};
+ghost use mathlib.Core.List.{List};
 ghost use Prim.Native.Nat.{_<_};
-ghost use Rattle.integers.specs.Integer.{Within};
-ghost use Rattle.sheet.specs.Layout.{lentOf, dims, axes};
-ghost use Rattle.sheet.specs.Accepted.{Block};
-ghost use Rattle.words.specs.Places.{BoxPlace};
-ghost use Rattle.region.specs.Area.{reach, Cuts, fieldArea};
-ghost use Rattle.forbid.specs.Pair.{fromMax, toMin, PairPlaces, IsInterval, sideForbids, forbiddenBy};
-use region::Area;
-use region::COORDINATES;
-use region::REACH;
+ghost use lib.IntN.{ℤ};
+ghost use Rattle.integers.specs.Integer.{within};
+ghost use Rattle.sheet.specs.Layout.{dims, axes, low, high};
+ghost use Rattle.sheet.specs.Allowed.{inRanges};
+ghost use Rattle.words.specs.Places.{RowPlace};
+ghost use Rattle.points.specs.Area.{Cuts, fieldArea};
+ghost use Rattle.forbid.specs.Pair.{PairPlaces, IsInterval, sideForbids, solidsForbid};
+use crate::interval;
+use crate::interval::Interval;
+use outline::OUTLINE;
+use outline::solid;
+use points::Area;
+use points::COORDINATES;
+use points::REACH;
 use words::Place;
 
-// Rule r, box b of row i and box c of row j: what c forbids to i by b.
+// Rule r, a solid of a row, and another solid of row j: what the other forbids to the own one.
 pub struct Pair {
     pub r: Place,
-    pub i: Place,
-    pub b: Place,
+    pub own: usize,
     pub j: Place,
-    pub c: Place,
+    pub other: usize,
 }
 
-// The numbers from a first to a last one; none where the first exceeds the last.
-pub struct Interval {
-    pub from: i64,
-    pub to: i64,
-}
-
-// The first number that box c forbids to box b in dimension d, where c's row is at max: b's end is past c's start.
-fn forbid_from(block: &[i64], b: Place, c: Place, d: usize, max: i64) -> i64
-    requires { ⌜ Block (lentOf (now block)) × BoxPlace (lentOf (now block)) b × BoxPlace (lentOf (now block)) c
-        × (d < dims (lentOf (now block))) × Within 1000000 max ⌝ }
-    ensures { λ x. ⌜ (x ≡ fromMax (lentOf (now (block .entry))) (b .number) (c .number) d max) × Within reach x ⌝ }
+// What the pair forbids in dimension d, if the rule names d.
+fn interval_of(
+    block: &[i64],
+    table: &[i64],
+    outline: &[i64; OUTLINE],
+    pair: Pair,
+    d: usize,
+) -> Interval
+    requires { ⌜ PairPlaces (now block) (now table) (now outline) pair × (d < dims (now block)) ⌝ }
+    ensures { λ x. ⌜ IsInterval (now (block .entry)) (now (table .entry)) (now (outline .entry)) pair d x ⌝ }
 {
-    let back = -words::offset_of(block, b, d);
-    max + words::offset_of(block, c, d) + back - words::size_of(block, b, d) + 1
-}
-
-// The last one, where c's row is at min: b's start is before c's end.
-fn forbid_to(block: &[i64], b: Place, c: Place, d: usize, min: i64) -> i64
-    requires { ⌜ Block (lentOf (now block)) × BoxPlace (lentOf (now block)) b × BoxPlace (lentOf (now block)) c
-        × (d < dims (lentOf (now block))) × Within 1000000 min ⌝ }
-    ensures { λ x. ⌜ (x ≡ toMin (lentOf (now (block .entry))) (b .number) (c .number) d min) × Within reach x ⌝ }
-{
-    let back = -words::offset_of(block, b, d);
-    min + words::offset_of(block, c, d) + words::size_of(block, c, d) + back - 1
-}
-
-// What the pair forbids in dimension d.
-fn interval_of(block: &[i64], table: &[i64], pair: Pair, d: usize) -> Interval
-    requires { ⌜ PairPlaces (lentOf (now block)) (now table) pair × (d < dims (lentOf (now block))) ⌝ }
-    ensures { λ x. ⌜ IsInterval (lentOf (now (block .entry))) (now (table .entry)) pair d x ⌝ }
-{
-    let b = pair.b;
     let j = pair.j;
-    let c = pair.c;
-    let min = words::low_of(block, table, j, d);
-    let max = words::high_of(block, table, j, d);
-    Interval {
-        from: forbid_from(block, b, c, d, max),
-        to: forbid_to(block, b, c, d, min),
-    }
+    let own = solid::extent_of(outline, pair.own, d);
+    let other = solid::extent_of(outline, pair.other, d);
+    let low = words::low_of(block, table, j, d);
+    let high = words::high_of(block, table, j, d);
+    interval::overlapping(own, other, low, high)
 }
 
 // Whether the pair forbids x in dimension d, if the rule names d.
-fn side_forbids(block: &[i64], table: &[i64], pair: Pair, d: usize, x: i64) -> bool
-    requires { ⌜ PairPlaces (lentOf (now block)) (now table) pair × (d < dims (lentOf (now block))) ⌝ }
-    ensures { λ y. ⌜ y ≡ sideForbids (lentOf (now (block .entry))) (now (table .entry)) pair d x ⌝ }
+fn side_forbids(
+    block: &[i64],
+    table: &[i64],
+    outline: &[i64; OUTLINE],
+    pair: Pair,
+    d: usize,
+    x: i64,
+) -> bool
+    requires { ⌜ PairPlaces (now block) (now table) (now outline) pair × (d < dims (now block)) ⌝ }
+    ensures { λ y. ⌜ y ≡ sideForbids (now (block .entry)) (now (table .entry)) (now (outline .entry)) pair d x ⌝ }
 {
     let r = pair.r;
     if !words::names_dim(block, r, d) {
         return true;
     }
-    let interval = interval_of(block, table, pair, d);
+    let interval = interval_of(block, table, outline, pair, d);
     words::is_within(x, interval.from, interval.to)
 }
 
 // Whether the pair forbids p: in every dimension that the rule names, and no further than the first that clears it.
-pub fn pair_forbids(block: &[i64], table: &[i64], pair: Pair, p: [i64; COORDINATES]) -> bool
-    requires { ⌜ PairPlaces (lentOf (now block)) (now table) pair ⌝ }
-    ensures { λ x. ⌜ x ≡ forbiddenBy (lentOf (now (block .entry))) (now (table .entry)) pair p ⌝ }
+pub fn pair_forbids(
+    block: &[i64],
+    table: &[i64],
+    outline: &[i64; OUTLINE],
+    pair: Pair,
+    p: [i64; COORDINATES],
+) -> bool
+    requires { ⌜ PairPlaces (now block) (now table) (now outline) pair ⌝ }
+    ensures { λ x. ⌜ x ≡ solidsForbid (now (block .entry)) (now (table .entry)) (now (outline .entry)) pair p ⌝ }
 {
     let k = words::dims_of(block);
     let mut d = 0;
     while d < k {
-        if !side_forbids(block, table, pair, d, p[d]) {
+        if !side_forbids(block, table, outline, pair, d, p[d]) {
+            return false;
+        }
+        d += 1;
+    }
+    true
+}
+
+// Whether no number from a first to a last one lies from low to high.
+fn is_apart(from: i64, to: i64, low: i64, high: i64) -> bool
+    ensures { λ r. ⌜ (r ≡ true → (z : ℤ) → within from to z ≡ true → within low high z ≡ true → ⊥) ⌝ }
+{
+    if to < low {
+        return true;
+    }
+    if high < from {
+        return true;
+    }
+    to < from
+}
+
+// Whether the pair may forbid row i a number of its range in dimension d: so it may where the rule does not name d.
+fn side_meets(
+    block: &[i64],
+    table: &[i64],
+    outline: &[i64; OUTLINE],
+    pair: Pair,
+    i: Place,
+    d: usize,
+) -> bool
+    requires { ⌜ PairPlaces (now block) (now table) (now outline) pair × RowPlace (now block) (now table) i × (d < dims (now block)) ⌝ }
+    ensures { λ y. ⌜ (y ≡ false → (z : ℤ)
+        → within (low (now (block .entry)) (now (table .entry)) (i .number) d) (high (now (block .entry)) (now (table .entry)) (i .number) d) z ≡ true
+        → sideForbids (now (block .entry)) (now (table .entry)) (now (outline .entry)) pair d z ≡ true → ⊥) ⌝ }
+{
+    let r = pair.r;
+    if !words::names_dim(block, r, d) {
+        return true;
+    }
+    let interval = interval_of(block, table, outline, pair, d);
+    let low = words::low_of(block, table, i, d);
+    let high = words::high_of(block, table, i, d);
+    !is_apart(interval.from, interval.to, low, high)
+}
+
+// Whether the pair may forbid row i a point of its ranges: no further than the first dimension in which it forbids none of them.
+pub fn pair_meets(
+    block: &[i64],
+    table: &[i64],
+    outline: &[i64; OUTLINE],
+    pair: Pair,
+    i: Place,
+) -> bool
+    requires { ⌜ PairPlaces (now block) (now table) (now outline) pair × RowPlace (now block) (now table) i ⌝ }
+    ensures { λ x. ⌜ (x ≡ false → (p : List ℤ) → inRanges (now (block .entry)) (now (table .entry)) (i .number) p ≡ true
+        → solidsForbid (now (block .entry)) (now (table .entry)) (now (outline .entry)) pair p ≡ true → ⊥) ⌝ }
+{
+    let k = words::dims_of(block);
+    let mut d = 0;
+    while d < k {
+        if !side_meets(block, table, outline, pair, i, d) {
             return false;
         }
         d += 1;
@@ -93,10 +150,10 @@ pub fn pair_forbids(block: &[i64], table: &[i64], pair: Pair, p: [i64; COORDINAT
 }
 
 // The points that the pair forbids: its intervals in the named dimensions, the whole field in the others.
-pub fn pair_area(block: &[i64], table: &[i64], pair: Pair) -> Area
-    requires { ⌜ PairPlaces (lentOf (now block)) (now table) pair ⌝ }
-    ensures { λ x. ⌜ Cuts (axes (lentOf (now (block .entry)))) fieldArea x
-        (forbiddenBy (lentOf (now (block .entry))) (now (table .entry)) pair) ⌝ }
+pub fn pair_area(block: &[i64], table: &[i64], outline: &[i64; OUTLINE], pair: Pair) -> Area
+    requires { ⌜ PairPlaces (now block) (now table) (now outline) pair ⌝ }
+    ensures { λ x. ⌜ Cuts (axes (now (block .entry))) fieldArea x
+        (solidsForbid (now (block .entry)) (now (table .entry)) (now (outline .entry)) pair) ⌝ }
 {
     let k = words::dims_of(block);
     let r = pair.r;
@@ -105,7 +162,7 @@ pub fn pair_area(block: &[i64], table: &[i64], pair: Pair) -> Area
     let mut d = 0;
     while d < k {
         if words::names_dim(block, r, d) {
-            let interval = interval_of(block, table, pair, d);
+            let interval = interval_of(block, table, outline, pair, d);
             let from = interval.from;
             let to = interval.to;
             low[d] = from;

@@ -17,6 +17,10 @@ use Rattle.integers.proofs.Booleans.{clash, decide, fails, and-true, tr
 pub same-or : (a b : ℕ) → (a ≡ b) ⊎ (a ≡ b → ⊥)
 same-or a b = ⊎-elim (λ e. inl (eqb-true a b e)) (λ e. inr (eqb-false a b e)) (decide (eqb a b))
 
+-- a fact of each number: of i, and of the others
+pub here-and-else : (i : ℕ) (P : ℕ → Type 0) → P i → ((q : ℕ) → (q ≡ i → ⊥) → P q) → (q : ℕ) → P q
+here-and-else i P here other q = ⊎-elim (λ e. subst P (sym e) here) (λ ne. other q ne) (same-or q i)
+
 pub below-or : (a b : ℕ) → (a < b) ⊎ (b ≤ a)
 below-or a b = ⊎-elim (λ e. inl (ltb-true a b e)) (λ e. inr (ltb-false a b e)) (decide (ltb a b))
 
@@ -168,9 +172,6 @@ least-view (suc n) f = step (least-view n f) (f n) refl
     }
     step (inr w) false e = inr (ap₂ next e (w .0), none-more f (w .1) e)
 
-pub least-some : {n : ℕ} (f : ℕ → Bool) (i : ℕ) → i < n → f i ≡ true → Least n f
-least-some {n} f i h t = ⊎-elim (λ l. l) (λ r. clash t (r .1 i h)) (least-view n f)
-
 -- ---- the last
 pub record Greatest (n : ℕ) (f : ℕ → Bool) : Type 0 where
   pub at : ℕ
@@ -204,6 +205,3 @@ greatest-view (suc n) f = step (greatest-view n f) (f n) refl
       last = λ i h t. ⊎-elim (λ p. clash (ap f (sym p) ∙ t) e) (λ l. w .last i l t) (last-or h);
     }
     step (inr w) false e = inr (ap₂ next e (w .0), none-more f (w .1) e)
-
-pub greatest-some : {n : ℕ} (f : ℕ → Bool) (i : ℕ) → i < n → f i ≡ true → Greatest n f
-greatest-some {n} f i h t = ⊎-elim (λ l. l) (λ r. clash t (r .1 i h)) (greatest-view n f)

@@ -1,7 +1,7 @@
 -- The bits of a number: which are set, how many, the lowest one; a number is told by its bits. The counts `ones` and
 -- `trailingZeros` are the machine's, of lib.Count. Assumes nothing.
 use mathlib.Core.Path.{_≡_, refl, sym, ap, _∙_, subst}
-use mathlib.Core.Logic.{_⊎_, inl, inr, ⊎-elim, _↔_}
+use mathlib.Core.Logic.{_⊎_, inl, inr, ⊎-elim}
 use mathlib.Core.Bool.{true, false}
 use Prim.Native.Nat.{ℕ, zero, suc, _+_, _*_, _/_, _%_, _^_, _≤_, _<_, zero-le}
 use native.Mathlib.Nat.{div-one, div-div-eq-div-mul, div-eq-of-lt, pow-succ', zero-add, le-refl, le-antisymm, lt-of-lt-of-le}
@@ -201,9 +201,3 @@ one-only k {x} h o = subst (λ (n : ℕ). Only n (trailingZeros k x)) (sym (one-
 
 pub one-lt : (k : ℕ) {x : ℕ} → x < 2 ^ k → ones x ≡ 1 → trailingZeros k x < k
 one-lt k {x} h o = tz-lt k h (omega (arith, one-power k h o, pow-pos (trailingZeros k x)))
-
-pub one-sole : (x : ℕ) {s d : ℕ} → ones x ≡ 1 → bitAt x s ≡ 1 → bitAt x d ≡ 1 → s ≡ d
-one-sole x {s} {d} o p q = let w = one-only x (below-power x) o in w .sole s p ∙ sym (w .sole d q)
-
-pub one-iff : (x : ℕ) → (ones x ≡ 1 ↔ ((s : ℕ) × Only x s))
-one-iff x = (λ o. (trailingZeros x x, one-only x (below-power x) o), λ w. only-one (w .1))

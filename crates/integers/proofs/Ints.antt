@@ -6,7 +6,7 @@
 --     disjoint z, abs z        for a bound on the size of z
 -- Assumes nothing.
 use mathlib.Core.Path.{_≡_, refl, ap, ap₂, _∙_, subst}
-use mathlib.Core.Logic.{_≢_, _⊎_, inl, inr}
+use mathlib.Core.Logic.{_≢_}
 use mathlib.Core.Bool.{Bool, true, false, not, cond, _&&_, _||_}
 use Prim.Native.Nat.{ℕ, zero, suc, _+_, _-_, _^_, _≤_, _<_}
 use native.Mathlib.Omega.{arith}
@@ -18,7 +18,7 @@ use mir.Syntax.{w64}
 use mir.Val.{SFits, toZ, ofZ}
 use mir.Facts.{toZ-ofZ}
 use Rattle.integers.specs.Integer.{up, dn, eqZ, within}
-use Rattle.integers.proofs.Booleans.{true-T, T-true, clash, decide, passes, fails, and-true, true-and, nor, or-comm}
+use Rattle.integers.proofs.Booleans.{true-T, T-true, clash, passes, fails, and-true, true-and, nor, or-comm}
 
 -- ---- the tests, as a branch leaves them: what a test says of the parts, and the test from the parts
 pub leZ-true : (a b : ℤ) → leZ a b ≡ true → up a + dn b ≤ up b + dn a
@@ -241,13 +241,6 @@ within-true {a} {b} {z} e = let w : (leZ a z ≡ true) × (leZ z b ≡ true) = a
 
 pub true-within : {a b z : ℤ} → a ≤ℤ z → z ≤ℤ b → within a b z ≡ true
 true-within h k = omega ints
-
-pub within-false : {a b z : ℤ} → within a b z ≡ false → (z <ℤ a) ⊎ (b <ℤ z)
-within-false {a} {b} {z} e = by (decide (leZ a z))
-  where
-    by : (leZ a z ≡ true) ⊎ (leZ a z ≡ false) → (z <ℤ a) ⊎ (b <ℤ z)
-    by (inl h) = inr (omega (ints, not-le (λ k. clash (true-within (le-of-test h) k) e)))
-    by (inr h) = inl (omega ints)
 
 -- ---- two boxes in one dimension
 -- a test that passes exactly where another fails: b − a = c − d − 1

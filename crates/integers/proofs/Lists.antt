@@ -34,10 +34,6 @@ module _ {ℓ} {A : Type ℓ} where
       (λ l. List·getD-append (listBelow n f) (f n ∷ []) x d (omega (arith, length-listBelow n f)) ∙ getD-listBelow {n = n} f x l)
       (last-or h)
 
-  pub listBelow-more : (n : ℕ) (f : ℕ → A) → listBelow (n + 1) f ≡ listBelow n f ++ (f n ∷ [])
-  unfolding listBelow
-  listBelow-more n f = rw add-one
-
 -- ---- f 0, g 0 to f (n − 1), g (n − 1)
 pub length-pairsBelow : (n : ℕ) (f g : ℕ → ℤ) → length (pairsBelow n f g) ≡ 2 * n
 unfolding pairsBelow

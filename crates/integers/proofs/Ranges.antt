@@ -8,7 +8,7 @@ use native.Mathlib.Nat.{mul-le-mul-right, suc-mul}
 use lib.Dec.{eqb}
 use borrow.Author.Tests.{eqb-true, eq-eqb}
 use lib.IntN.{ℤ, pos, natAbs, _+ℤ_, _-ℤ_}
-use lib.Signed.{_≤ℤ_, _<ℤ_, leZ}
+use lib.Signed.{_≤ℤ_, leZ}
 use Rattle.integers.specs.Integer.{nat, up, dn, eqZ, within, width}
 use Rattle.integers.proofs.Booleans.{both-ways, decide}
 use Rattle.integers.proofs.Ints.{ints, abs, disjoint, sum, diff, lin, v, _⊕_, _⊖_, not-eq, eqZ-eq, within-true}
@@ -19,9 +19,6 @@ le-nat {z} h = omega (ints, disjoint z)
 
 pub nat-le : {n : ℕ} {z : ℤ} → z ≤ℤ pos n → nat z ≤ n
 nat-le {z} h = omega (ints, disjoint z)
-
-pub nat-mono : {y z : ℤ} → y ≤ℤ z → nat y ≤ nat z
-nat-mono {y} {z} h = omega (ints, disjoint y, disjoint z)
 
 pub nat-from : {a b : ℕ} (z : ℤ) → within (pos a) (pos b) z ≡ true → (a ≤ nat z) × (nat z ≤ b)
 nat-from z e = let w = within-true e in (le-nat (w .0), nat-le (w .1))
@@ -52,15 +49,8 @@ count {a} {z} h = omega (ints, nat-diff z a, sum a (pos (nat (z -ℤ a))))
 pub count-below : {a b z : ℤ} → a ≤ℤ z → z ≤ℤ b → nat (z -ℤ a) < width a b
 count-below {a} {b} {z} h k = omega (ints, nat-diff z a, width-is a b)
 
--- and back: what is counted lies in the range
-pub below-width : (a b : ℤ) {m : ℕ} → m < width a b → (a +ℤ pos m) ≤ℤ b
-below-width a b {m} h = omega (ints, sum a (pos m), width-is a b)
-
 pub counts : (a : ℤ) {m n : ℕ} → m ≤ n → (a +ℤ pos m) ≤ℤ (a +ℤ pos n)
 counts a {m} {n} h = omega (ints, sum a (pos m), sum a (pos n))
-
-pub width-none : {a b : ℤ} → b <ℤ a → width a b ≡ 0
-width-none {a} {b} h = omega (ints, width-is a b)
 
 pub width-le : {a b a' b' : ℤ} → a ≤ℤ a' → b' ≤ℤ b → width a' b' ≤ width a b
 width-le {a} {b} {a'} {b'} h k = omega (ints, width-is a b, width-is a' b')

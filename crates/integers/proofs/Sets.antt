@@ -51,9 +51,6 @@ pub set-ge-1 : (z : ℤ) (s : ℕ) → holds z s ≡ true → pos 1 ≤ℤ z
 set-ge-1 z zero e = clash e (none-zero z)
 set-ge-1 z (suc m) e = omega (ints, disjoint z, bitAt-pos m (held-one z m e))
 
-pub none-negative : {z : ℤ} → z ≤ℤ pos 0 → (s : ℕ) → holds z s ≡ false
-none-negative {z} h s = fails (λ e. omega (ints, set-ge-1 z s e))
-
 pub living-set : {z : ℤ} → pos 1 ≤ℤ z → (s : ℕ) × (holds z s ≡ true)
 living-set {z} h = let w = some-bit (nat z) (le-nat h) in (suc (w .0), one-held z (w .0) (w .1))
 
@@ -127,10 +124,6 @@ no-only z f (suc m) = fails (λ e. f (only-one (only-bit z m e)))
 pub setOf-zero : (f : ℕ → Bool) → setOf 0 f ≡ 0
 unfolding setOf
 setOf-zero f = refl
-
-pub setOf-more : (n : ℕ) (f : ℕ → Bool) → setOf (n + 1) f ≡ setOf n f + cond (f (n + 1)) (2 ^ n) 0
-unfolding setOf
-setOf-more n f = rw add-one
 
 -- the step, by the test
 step-in : {n : ℕ} (f : ℕ → Bool) → f (suc n) ≡ true → setOf (suc n) f ≡ setOf n f + 2 ^ n

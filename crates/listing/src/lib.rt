@@ -7,7 +7,7 @@ ghost use Prim.Native.Nat.{_+_, _*_, _≤_, min};
 ghost use lib.IntN.{pos};
 ghost use lib.ListN.{length, take};
 ghost use Rattle.stores.specs.Put.{Put};
-ghost use Rattle.sheet.specs.Layout.{lentOf, rowLen};
+ghost use Rattle.sheet.specs.Layout.{rowLen};
 ghost use Rattle.sheet.specs.Text.{ascii, shown, commas, rowLines, printedFor};
 
 mod number; // number.rt: a number in decimal digits
@@ -78,7 +78,7 @@ fn put_first(out: &mut [u8], word: &[u8], z: i64) -> usize
 
 // The length of a row, or 289 where it is more: such a row has no room in a table.
 fn row_len(block: &[i64]) -> usize
-    ensures { λ r. ⌜ r ≡ min (rowLen (lentOf (now (block .entry)))) 289 ⌝ }
+    ensures { λ r. ⌜ r ≡ min (rowLen (now (block .entry))) 289 ⌝ }
 {
     if block.len() == 0 {
         return 1;
@@ -95,7 +95,7 @@ fn row_len(block: &[i64]) -> usize
 
 fn put_table(out: &mut [u8], block: &[i64], table: &[i64]) -> usize
     requires { ⌜ length (now table) ≤ 288 ⌝ }
-    ensures { λ r. ⌜ Put (now (out .entry)) 0 (printedFor 0 (lentOf (now (block .entry))) (some (now (table .entry)))) r (now (out .exit)) ⌝ }
+    ensures { λ r. ⌜ Put (now (out .entry)) 0 (printedFor 0 (now (block .entry)) (some (now (table .entry)))) r (now (out .exit)) ⌝ }
 {
     let len = row_len(block);
     let n = table.len() / len;
@@ -105,7 +105,7 @@ fn put_table(out: &mut [u8], block: &[i64], table: &[i64]) -> usize
 
 // A settled table: 288 words, which no accepted sheet goes past, are looked at.
 pub fn put_settled(out: &mut [u8], block: &[i64], table: &[i64]) -> usize
-    ensures { λ r. ⌜ Put (now (out .entry)) 0 (printedFor 0 (lentOf (now (block .entry))) (some (take 288 (now (table .entry))))) r
+    ensures { λ r. ⌜ Put (now (out .entry)) 0 (printedFor 0 (now (block .entry)) (some (take 288 (now (table .entry))))) r
         (now (out .exit)) ⌝ }
 {
     if table.len() > 288 {

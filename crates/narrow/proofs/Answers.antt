@@ -50,8 +50,7 @@ module _ (t : List ℤ) (o : Option (List ℤ)) where
   narrow-refused zero h = absurd (omega arith)
   narrow-refused (suc m) h = (refl, refl)
 
-  pub narrow-step : {u : List ℤ} {n : ℕ} {x y : Step} → n ≡ 0 → (x ≡ stepAnswer t o) × (u ≡ valueOr t o) → x ≡ y
-      → (narrowing y ≡ narrowAnswer n o) × (u ≡ tableAfter n t o)
+  pub narrow-step : {u : List ℤ} {x y : Step} → (x ≡ stepAnswer t o) × (u ≡ valueOr t o) → x ≡ y
+      → (narrowing y ≡ narrowAnswer 0 o) × (u ≡ tableAfter 0 t o)
   unfolding tableAfter
-  narrow-step e w q =
-      (ap narrowing (sym q ∙ w .0) ∙ answer-is t o ∙ ap (λ (n : ℕ). narrowAnswer n o) (sym e), w .1 ∙ ap (λ (n : ℕ). tableAfter n t o) (sym e))
+  narrow-step w q = (ap narrowing (sym q ∙ w .0) ∙ answer-is t o, w .1)

@@ -1,18 +1,18 @@
 -- One shape more in a hull: whether it is kept (`kept-shape`, `kept-not`), and the hull with it (`hull-next`) or, if it is not in the row's set,
 -- without (`hull-skip`); the hull of no shape (`hull-start`), and of all (`hull-rest`). Assumes nothing.
-use mathlib.Core.Path.{_≡_, sym, ap, _∙_, subst}
+use mathlib.Core.Path.{_≡_, sym, ap, subst}
 use mathlib.Core.Bool.{Bool, true, false, cond}
 use mathlib.Core.List.{List, [], _∷_}
-use Prim.Native.Nat.{ℕ, zero, suc, _+_, _/_, _%_, _^_, _≤_, _<_}
+use Prim.Native.Nat.{ℕ, zero, suc, _+_, _^_, _≤_, _<_}
 use native.Mathlib.Omega.{arith}
+use lib.Dec.{eqb}
 use lib.IntN.{ℤ, pos}
-use borrow.Author.Tests.{eq-eqb, ne-eqb}
 use Rattle.integers.specs.Integer.{minus, nat}
-use Rattle.integers.specs.Bits.{setOf, holds, bit, bitAt}
+use Rattle.integers.specs.Bits.{bitAt, bit, holds, setOf}
 use Rattle.integers.proofs.Bits.{bit-past}
 use Rattle.integers.proofs.Booleans.{clash, fails, and-true, true-and}
 use Rattle.integers.proofs.Sets.{setOf-zero, setOf-below}
-use Rattle.sheet.specs.Layout.{Lent, axes, shapeSet, hasShape}
+use Rattle.sheet.specs.Layout.{axes, shapeSet, hasShape}
 use Rattle.sheet.specs.Allowed.{allowed}
 use Rattle.sheet.specs.Narrow.{keepsShape}
 use Rattle.sheet.proofs.Forbidden.{allowed-parts}
@@ -22,80 +22,77 @@ use Rattle.narrow.specs.Ends.{endAt, Ends}
 use Rattle.narrow.specs.Hulls.{HullTo}
 use Rattle.narrow.proofs.Shapes.{end-start, end-skip}
 
-module _ (lent : Lent) (t : List ℤ) (i : ℕ) where
+module _ (block : List ℤ) (t : List ℤ) (i : ℕ) where
   -- the ends of no shape
-  pub ends-start : axes lent ≤ 4 → Ends lent t i 0
+  pub ends-start : axes block ≤ 4 → Ends block t i 0
       (pos 1500000 ∷ pos 1500000 ∷ pos 1500000 ∷ pos 1500000 ∷ minus 1500000 ∷ minus 1500000 ∷ minus 1500000 ∷ minus 1500000 ∷ [])
-  ends-start h true zero l = end-start lent t i true 0
-  ends-start h true (suc zero) l = end-start lent t i true 1
-  ends-start h true (suc (suc zero)) l = end-start lent t i true 2
-  ends-start h true (suc (suc (suc zero))) l = end-start lent t i true 3
+  ends-start h true zero l = end-start block t i true 0
+  ends-start h true (suc zero) l = end-start block t i true 1
+  ends-start h true (suc (suc zero)) l = end-start block t i true 2
+  ends-start h true (suc (suc (suc zero))) l = end-start block t i true 3
   ends-start h true (suc (suc (suc (suc d)))) l = absurd (omega arith)
-  ends-start h false zero l = end-start lent t i false 0
-  ends-start h false (suc zero) l = end-start lent t i false 1
-  ends-start h false (suc (suc zero)) l = end-start lent t i false 2
-  ends-start h false (suc (suc (suc zero))) l = end-start lent t i false 3
+  ends-start h false zero l = end-start block t i false 0
+  ends-start h false (suc zero) l = end-start block t i false 1
+  ends-start h false (suc (suc zero)) l = end-start block t i false 2
+  ends-start h false (suc (suc (suc zero))) l = end-start block t i false 3
   ends-start h false (suc (suc (suc (suc d)))) l = absurd (omega arith)
 
-  pub hull-start : {ends : List ℤ} → Ends lent t i 0 ends → HullTo lent t i 0 0 ends
-  hull-start x = record { kept = sym (setOf-zero (keepsShape lent t i)); reach = x }
+  pub hull-start : {ends : List ℤ} → Ends block t i 0 ends → HullTo block t i 0 0 ends
+  hull-start x = record { kept = sym (setOf-zero (keepsShape block t i)); reach = x }
 
   -- shape s + 1 is bit s of the row's set
-  pub shape-in : {set : ℕ} (s : ℕ) → set ≡ nat (shapeSet lent t i) → set / 2 ^ s % 2 ≡ 1 → hasShape lent t i (suc s) ≡ true
-  unfolding hasShape holds bit bitAt
-  shape-in s q e = eq-eqb _ _ (ap (λ (n : ℕ). n / 2 ^ s % 2) (sym q) ∙ e)
+  -- bit s of the set stands for shape s + 1
+  pub member-shape : {set : ℕ} (s : ℕ) → set ≡ nat (shapeSet block t i) → bit (pos set) s ≡ hasShape block t i (suc s)
+  unfolding hasShape holds bit
+  member-shape s q = ap (λ (n : ℕ). eqb (bitAt n s) 1) q
 
-  pub shape-not : {set : ℕ} (s : ℕ) → set ≡ nat (shapeSet lent t i) → (set / 2 ^ s % 2 ≡ 1 → ⊥) → hasShape lent t i (suc s) ≡ false
-  unfolding hasShape holds bit bitAt
-  shape-not s q n = ne-eqb _ _ (λ e. n (ap (λ (n : ℕ). n / 2 ^ s % 2) q ∙ e))
-
-  pub kept-shape : (s : ℕ) (q : List ℤ) → hasShape lent t i s ≡ true → allowed lent t i s q ≡ true → keepsShape lent t i s ≡ true
+  pub kept-shape : (s : ℕ) (q : List ℤ) → hasShape block t i s ≡ true → allowed block t i s q ≡ true → keepsShape block t i s ≡ true
   unfolding keepsShape
   kept-shape s q held e =
-      true-and held (met lent t i (allowed lent t i s) (λ p r a. allowed-agree lent t p r a i s) q (allowed-parts lent t i s q e .0) e)
+      true-and held (met block t i (allowed block t i s) (λ p r a. allowed-agree block t p r a i s) q (allowed-parts block t i s q e .0) e)
 
   module _ (s : ℕ) where
     abbrev None : Type 0
-    None = (p : List ℤ) → hasShape lent t i (suc s) ≡ true → allowed lent t i (suc s) p ≡ true → ⊥
+    None = (p : List ℤ) → hasShape block t i (suc s) ≡ true → allowed block t i (suc s) p ≡ true → ⊥
 
-    pub kept-not : None → keepsShape lent t i (suc s) ≡ false
+    pub kept-not : None → keepsShape block t i (suc s) ≡ false
     unfolding keepsShape
     kept-not none-of =
         fails (λ f.
-        let w = and-true {a = hasShape lent t i (suc s)} f in
-        let q = found lent t i (allowed lent t i (suc s)) (w .1) in
+        let w = and-true {a = hasShape block t i (suc s)} f in
+        let q = found block t i (allowed block t i (suc s)) (w .1) in
         none-of (q .0) (w .0) (q .1))
 
-    pub ends-skip : {ends : List ℤ} → None → Ends lent t i s ends → Ends lent t i (suc s) ends
-    ends-skip {ends} none-of x flip d h = end-skip lent t i flip s d (endAt flip d ends) none-of (x flip d h)
+    pub ends-skip : {ends : List ℤ} → None → Ends block t i s ends → Ends block t i (suc s) ends
+    ends-skip {ends} none-of x flip d h = end-skip block t i flip s d (endAt flip d ends) none-of (x flip d h)
 
-    module _ (shapes : ℕ) (ends : List ℤ) (x : HullTo lent t i s shapes ends) where
+    module _ (shapes : ℕ) (ends : List ℤ) (x : HullTo block t i s shapes ends) where
       pub below-next : shapes < 2 ^ s
-      below-next = subst (λ (n : ℕ). n < 2 ^ s) (sym (x .kept)) (setOf-below s (keepsShape lent t i))
+      below-next = subst (λ (n : ℕ). n < 2 ^ s) (sym (x .kept)) (setOf-below s (keepsShape block t i))
 
-      pub hull-next : (b : Bool) {new : List ℤ} → keepsShape lent t i (suc s) ≡ b → Ends lent t i (suc s) new
-          → HullTo lent t i (suc s) (shapes + cond b (2 ^ s) 0) new
+      pub hull-next : (b : Bool) {new : List ℤ} → keepsShape block t i (suc s) ≡ b → Ends block t i (suc s) new
+          → HullTo block t i (suc s) (shapes + cond b (2 ^ s) 0) new
       unfolding setOf
       hull-next b e y = record {
-        kept = let k = ap (λ (c : Bool). setOf s (keepsShape lent t i) + cond c (2 ^ s) 0) e in omega (arith, x .kept, k);
+        kept = let k = ap (λ (c : Bool). setOf s (keepsShape block t i) + cond c (2 ^ s) 0) e in omega (arith, x .kept, k);
         reach = y;
       }
 
-      pub hull-skip : hasShape lent t i (suc s) ≡ false → HullTo lent t i (suc s) shapes ends
+      pub hull-skip : hasShape block t i (suc s) ≡ false → HullTo block t i (suc s) shapes ends
       hull-skip e =
           let none-of : None = λ p held a. clash held e in
           let q : shapes + 0 ≡ shapes = omega arith in
-          subst (λ (n : ℕ). HullTo lent t i (suc s) n ends) q (hull-next false (kept-not none-of) (ends-skip none-of (x .reach)))
+          subst (λ (n : ℕ). HullTo block t i (suc s) n ends) q (hull-next false (kept-not none-of) (ends-skip none-of (x .reach)))
 
-  past-set : {s : ℕ} (m : ℕ) → nat (shapeSet lent t i) < 2 ^ s → s ≤ m → hasShape lent t i (suc m) ≡ false
+  past-set : {s : ℕ} (m : ℕ) → nat (shapeSet block t i) < 2 ^ s → s ≤ m → hasShape block t i (suc m) ≡ false
   unfolding hasShape holds
-  past-set m below l = bit-past (shapeSet lent t i) below l
+  past-set m below l = bit-past (shapeSet block t i) below l
 
   -- no shape of the row's set is past s
-  pub hull-rest : (s shapes : ℕ) (ends : List ℤ) → nat (shapeSet lent t i) < 2 ^ s → HullTo lent t i s shapes ends
-      → (k : ℕ) → HullTo lent t i (s + k) shapes ends
-  hull-rest s shapes ends below x zero = let q : s ≡ s + 0 = omega arith in subst (λ (n : ℕ). HullTo lent t i n shapes ends) q x
+  pub hull-rest : (s shapes : ℕ) (ends : List ℤ) → nat (shapeSet block t i) < 2 ^ s → HullTo block t i s shapes ends
+      → (k : ℕ) → HullTo block t i (s + k) shapes ends
+  hull-rest s shapes ends below x zero = let q : s ≡ s + 0 = omega arith in subst (λ (n : ℕ). HullTo block t i n shapes ends) q x
   hull-rest s shapes ends below x (suc k) =
       let q : suc (s + k) ≡ s + suc k = omega arith in
-      subst (λ (n : ℕ). HullTo lent t i n shapes ends) q
+      subst (λ (n : ℕ). HullTo block t i n shapes ends) q
       (hull-skip (s + k) shapes ends (hull-rest s shapes ends below x k) (past-set (s + k) below (omega arith)))

@@ -14,7 +14,7 @@ use Rattle.integers.proofs.Booleans.{clash}
 use Rattle.integers.proofs.Below.{same-or}
 use Rattle.integers.proofs.Ints.{ints, v, _⊕_, _⊖_, lin, not-le, ≤ℤ-trans, true-within}
 use Rattle.integers.proofs.Sets.{member-ge-1}
-use Rattle.sheet.specs.Layout.{Lent, shapeSet, hasShape}
+use Rattle.sheet.specs.Layout.{shapeSet, hasShape}
 use Rattle.sheet.specs.Allowed.{allowed}
 use Rattle.sheet.specs.Narrow.{Stands}
 use Rattle.bounds.specs.Search.{Ahead}
@@ -59,13 +59,13 @@ farther-ahead flip z y =
     (λ u. subst (λ (x : ℤ). Ahead flip x z × Ahead flip x y) (sym (u .0)) (u .1, ahead-refl flip y))
     (farther-or flip z y)
 
-module _ (lent : Lent) (t : List ℤ) (i : ℕ) where
+module _ (block : List ℤ) (t : List ℤ) (i : ℕ) where
   -- a point of the shapes up to n + 1 is one of those up to n, or of shape n + 1
-  last-shape : (n : ℕ) (p : List ℤ) → StandsTo lent t i (suc n) p
-      → StandsTo lent t i n p ⊎ ((hasShape lent t i (suc n) ≡ true) × (allowed lent t i (suc n) p ≡ true))
+  last-shape : (n : ℕ) (p : List ℤ) → StandsTo block t i (suc n) p
+      → StandsTo block t i n p ⊎ ((hasShape block t i (suc n) ≡ true) × (allowed block t i (suc n) p ≡ true))
   last-shape n p w =
       ⊎-elim
-      (λ e. inr (subst (λ (s : ℕ). (hasShape lent t i s ≡ true) × (allowed lent t i s p ≡ true)) e (w .held, w .stands)))
+      (λ e. inr (subst (λ (s : ℕ). (hasShape block t i s ≡ true) × (allowed block t i s p ≡ true)) e (w .held, w .stands)))
       (λ l. let k : w .shape ≤ n = omega arith in inl (record { shape = w .shape; upto = k; held = w .held; stands = w .stands }))
       (shape-or (w .shape) n (w .upto))
     where
@@ -73,50 +73,51 @@ module _ (lent : Lent) (t : List ℤ) (i : ℕ) where
       shape-or s n h = ⊎-elim (λ e. inl e) (λ ne. inr (omega arith)) (same-or s (suc n))
 
   -- no shape: no point
-  none-yet : (p : List ℤ) → StandsTo lent t i 0 p → ⊥
+  none-yet : (p : List ℤ) → StandsTo block t i 0 p → ⊥
   unfolding hasShape
-  none-yet p w = let h : 1 ≤ w .shape = member-ge-1 (shapeSet lent t i) (w .held) in let k = w .upto in omega arith
+  none-yet p w = let h : 1 ≤ w .shape = member-ge-1 (shapeSet block t i) (w .held) in let k = w .upto in omega arith
 
-  pub end-start : (flip : Bool) (d : ℕ) → End lent t i flip 0 d (nowhere flip)
+  pub end-start : (flip : Bool) (d : ℕ) → End block t i flip 0 d (nowhere flip)
   end-start flip d = inr (refl, none-yet)
 
   module _ (flip : Bool) (n d : ℕ) (z : ℤ) where
     -- ---- a point is taken in
-    module _ (p : List ℤ) (st : Stands lent t i p) where
+    module _ (p : List ℤ) (st : Stands block t i p) where
       abbrev y : ℤ
       y = word p d
 
       -- the end at the point
-      edge-there : ((q : List ℤ) → StandsTo lent t i n q → Ahead flip y (word q d)) → Edge lent t i flip n d y
+      edge-there : ((q : List ℤ) → StandsTo block t i n q → Ahead flip y (word q d)) → Edge block t i flip n d y
       edge-there h = record { ahead = h; reached = record { point = p; there = refl; by = st } }
 
-      pub edge-kept : Edge lent t i flip n d z → Edge lent t i flip n d (farther flip z y)
+      pub edge-kept : Edge block t i flip n d z → Edge block t i flip n d (farther flip z y)
       edge-kept x =
           ⊎-elim
-          (λ u. subst (λ (r : ℤ). Edge lent t i flip n d r) (sym (u .0)) x)
-          (λ u. subst (λ (r : ℤ). Edge lent t i flip n d r) (sym (u .0)) (edge-there (λ q w. ahead-trans flip y z (word q d) (u .1) (x .ahead q w))))
+          (λ u. subst (λ (r : ℤ). Edge block t i flip n d r) (sym (u .0)) x)
+          (λ u. subst (λ (r : ℤ). Edge block t i flip n d r) (sym (u .0)) (edge-there (λ q w. ahead-trans flip y z (word q d) (u .1) (x .ahead q w))))
           (farther-or flip z y)
 
-      pub end-taken : Within 1000000 y → End lent t i flip n d z → Edge lent t i flip n d (farther flip z y)
+      pub end-taken : Within 1000000 y → End block t i flip n d z → Edge block t i flip n d (farther flip z y)
       end-taken near x = ⊎-elim (λ e. edge-kept e) (λ u. first (u .0) (u .1)) x
         where
-          first : z ≡ nowhere flip → ((q : List ℤ) → StandsTo lent t i n q → ⊥) → Edge lent t i flip n d (farther flip z y)
+          first : z ≡ nowhere flip → ((q : List ℤ) → StandsTo block t i n q → ⊥) → Edge block t i flip n d (farther flip z y)
           first e none-of =
               ⊎-elim
               (λ u. absurd (not-nowhere flip y near (subst (λ (r : ℤ). Ahead flip r y) e (u .1))))
-              (λ u. subst (λ (r : ℤ). Edge lent t i flip n d r) (sym (u .0)) (edge-there (λ q w. absurd (none-of q w))))
+              (λ u. subst (λ (r : ℤ). Edge block t i flip n d r) (sym (u .0)) (edge-there (λ q w. absurd (none-of q w))))
               (farther-or flip z y)
 
     -- ---- shape n + 1 is taken in
     -- none of its points lies ahead
-    pub edge-more : Edge lent t i flip n d z → ((p : List ℤ) → allowed lent t i (suc n) p ≡ true → Ahead flip z (word p d))
-        → Edge lent t i flip (suc n) d z
-    edge-more x behind =
-        record { ahead = λ p w. ⊎-elim (λ u. x .ahead p u) (λ u. behind p (u .1)) (last-shape n p w); reached = x .reached }
+    pub edge-more : {s : ℕ} → s ≡ suc n → Edge block t i flip n d z → ((p : List ℤ) → allowed block t i s p ≡ true → Ahead flip z (word p d))
+        → Edge block t i flip s d z
+    edge-more e x behind =
+        let after = rw e at behind in
+        rw e (record { ahead = λ p w. ⊎-elim (λ u. x .ahead p u) (λ u. after p (u .1)) (last-shape n p w); reached = x .reached })
 
     -- it has none
-    pub end-skip : ((p : List ℤ) → hasShape lent t i (suc n) ≡ true → allowed lent t i (suc n) p ≡ true → ⊥)
-        → End lent t i flip n d z → End lent t i flip (suc n) d z
+    pub end-skip : ((p : List ℤ) → hasShape block t i (suc n) ≡ true → allowed block t i (suc n) p ≡ true → ⊥)
+        → End block t i flip n d z → End block t i flip (suc n) d z
     end-skip none-of x =
         ⊎-elim
         (λ e. inl (record {

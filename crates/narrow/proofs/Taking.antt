@@ -13,12 +13,12 @@ use Rattle.integers.specs.Integer.{Within}
 use Rattle.integers.specs.Words.{word}
 use Rattle.integers.proofs.Below.{same-or}
 use Rattle.integers.proofs.Machine.{within-between}
-use Rattle.sheet.specs.Layout.{Lent, axes, rows}
+use Rattle.sheet.specs.Layout.{axes, rows}
 use Rattle.sheet.specs.Allowed.{allowed}
 use Rattle.sheet.specs.Narrow.{Stands}
 use Rattle.sheet.specs.Accepted.{Table}
 use Rattle.sheet.proofs.Forbidden.{allowed-parts, in-range}
-use Rattle.region.specs.Area.{maxZ, minZ}
+use Rattle.points.specs.Area.{maxZ, minZ}
 use Rattle.narrow.specs.Ends.{endAt, farther, Taken, Edge, Edges, Ends, Kept}
 use Rattle.narrow.proofs.Shapes.{edge-kept, end-taken}
 
@@ -61,36 +61,36 @@ module _ (ends : List ℤ) (m : ℕ) (lo hi : ℤ) (long : length ends ≡ 8) (f
       here false = el ∙ ap (λ (z : ℤ). minZ z (word p m)) (x .kept false m (omega arith) few)
 
 -- ---- the ends then
-module _ (lent : Lent) (t : List ℤ) (table : Table lent t) (i : ℕ) (from : 1 ≤ i) (upto : i ≤ rows lent t) where
+module _ (block : List ℤ) (t : List ℤ) (table : Table block t) (i : ℕ) (from : 1 ≤ i) (upto : i ≤ rows block t) where
   -- an allowed point lies in the row's ranges
-  pub near-point : (s d : ℕ) → d < axes lent → (p : List ℤ) → allowed lent t i s p ≡ true → Within 1000000 (word p d)
+  pub near-point : (s d : ℕ) → d < axes block → (p : List ℤ) → allowed block t i s p ≡ true → Within 1000000 (word p d)
   near-point s d h p a =
-      let w = in-range lent t i d p (allowed-parts lent t i s p a .0) h in
+      let w = in-range block t i d p (allowed-parts block t i s p a .0) h in
       within-between (table .lows i d from upto h) (table .highs i d from upto h) (w .0) (w .1)
 
-  pub edge-near : {flip : Bool} {n : ℕ} (d : ℕ) → d < axes lent → {z : ℤ} → Edge lent t i flip n d z → Within 1000000 z
+  pub edge-near : {flip : Bool} {n : ℕ} (d : ℕ) → d < axes block → {z : ℤ} → Edge block t i flip n d z → Within 1000000 z
   edge-near d h x = let r = x .reached in subst (Within 1000000) (r .there) (near-point (r .by .shape) d h (r .point) (r .by .stands))
 
-  module _ (few : axes lent ≤ 4) {old p new : List ℤ} (x : Taken 4 old p new) (st : Stands lent t i p) where
-    pub taken-kept : Kept lent t i old new
+  module _ (few : axes block ≤ 4) {old p new : List ℤ} (x : Taken 4 old p new) (st : Stands block t i p) where
+    pub taken-kept : Kept block t i old new
     taken-kept n flip d h e =
-        subst (λ (z : ℤ). Edge lent t i flip n d z) (sym (x .moved flip d (omega arith))) (edge-kept lent t i flip n d (endAt flip d old) p st e)
+        subst (λ (z : ℤ). Edge block t i flip n d z) (sym (x .moved flip d (omega arith))) (edge-kept block t i flip n d (endAt flip d old) p st e)
 
-    pub taken-edges : (n : ℕ) → Ends lent t i n old → Edges lent t i n (axes lent) new
+    pub taken-edges : (n : ℕ) → Ends block t i n old → Edges block t i n (axes block) new
     taken-edges n ends flip d h =
-        subst (λ (z : ℤ). Edge lent t i flip n d z) (sym (x .moved flip d (omega arith)))
-        (end-taken lent t i flip n d (endAt flip d old) p st (near-point (st .shape) d h p (st .stands)) (ends flip d h))
+        subst (λ (z : ℤ). Edge block t i flip n d z) (sym (x .moved flip d (omega arith)))
+        (end-taken block t i flip n d (endAt flip d old) p st (near-point (st .shape) d h p (st .stands)) (ends flip d h))
 
 -- ---- one dimension more has taken in a shape, its low end first and then its high end
-pub edges-more : (lent : Lent) (t : List ℤ) (i n m : ℕ) {old mid new : List ℤ} → m < axes lent → Edges lent t i n m old
-    → Kept lent t i old mid → Edge lent t i false n m (endAt false m mid) → Kept lent t i mid new → Edge lent t i true n m (endAt true m new)
-    → Edges lent t i n (m + 1) new
-edges-more lent t i n m {old} {mid} {new} h x first low second high flip d l =
+pub edges-more : (block : List ℤ) (t : List ℤ) (i n m : ℕ) {old mid new : List ℤ} → m < axes block → Edges block t i n m old
+    → Kept block t i old mid → Edge block t i false n m (endAt false m mid) → Kept block t i mid new → Edge block t i true n m (endAt true m new)
+    → Edges block t i n (m + 1) new
+edges-more block t i n m {old} {mid} {new} h x first low second high flip d l =
     ⊎-elim
-    (λ q. subst (λ (e : ℕ). Edge lent t i flip n e (endAt flip e new)) (sym q) (here flip))
+    (λ q. subst (λ (e : ℕ). Edge block t i flip n e (endAt flip e new)) (sym q) (here flip))
     (λ ne. second n flip d (omega (arith, ne)) (first n flip d (omega (arith, ne)) (x flip d (omega (arith, ne)))))
     (same-or d m)
   where
-    here : (flip : Bool) → Edge lent t i flip n m (endAt flip m new)
+    here : (flip : Bool) → Edge block t i flip n m (endAt flip m new)
     here true = high
     here false = second n false m h low

@@ -4,16 +4,21 @@ use mathlib.Core.Path.{_≡_}
 use mathlib.Core.Logic.{_⊎_}
 use mathlib.Core.Bool.{Bool, true, false, cond}
 use mathlib.Core.List.{List}
-use Prim.Native.Nat.{ℕ, _+_, _≤_, _<_}
+use Prim.Native.Nat.{ℕ, suc, _+_, _≤_, _<_}
+use lib.ListN.{length}
 use lib.IntN.{ℤ, pos, _+ℤ_, _-ℤ_}
 use lib.Signed.{leZ}
 use Rattle.integers.specs.Integer.{minus}
 use Rattle.integers.specs.Words.{word}
-use Rattle.sheet.specs.Layout.{Lent, axes, hasShape}
+use Rattle.sheet.specs.Layout.{axes, hasShape}
 use Rattle.sheet.specs.Allowed.{allowed}
 use Rattle.sheet.specs.Narrow.{Reached}
-use Rattle.region.specs.declared.Area.{Area}
-use Rattle.region.specs.Area.{coordinates, maxZ, minZ}
+use Rattle.points.specs.declared.Area.{Area}
+use Rattle.points.specs.Area.{coordinates, areaWords, maxZ, minZ, inArea}
+use Rattle.region.specs.Rooms.{CutBox}
+use Rattle.outline.specs.Outline.{Subject}
+use Rattle.nearby.specs.declared.Nearby.{Nearby}
+use Rattle.nearby.specs.Listing.{Listed}
 use Rattle.bounds.specs.Search.{Ahead}
 
 -- an end in a run of eight: the low one, or where flip is set the high one
@@ -49,18 +54,18 @@ pub record Taken (m : ℕ) (old p new : List ℤ) : Type 0 where
   pub moved : (flip : Bool) (d : ℕ) → d < m → endAt flip d new ≡ farther flip (endAt flip d old) (word p d)
   pub kept : (flip : Bool) (d : ℕ) → m ≤ d → d < coordinates → endAt flip d new ≡ endAt flip d old
 
-module _ (lent : Lent) (t : List ℤ) (i : ℕ) where
+module _ (block : List ℤ) (t : List ℤ) (i : ℕ) where
   -- row i with one of the shapes 1 to n of its set is allowed at p
   pub record StandsTo (n : ℕ) (p : List ℤ) : Type 0 where
     pub shape : ℕ
     pub upto : shape ≤ n
-    pub held : hasShape lent t i shape ≡ true
-    pub stands : allowed lent t i shape p ≡ true
+    pub held : hasShape block t i shape ≡ true
+    pub stands : allowed block t i shape p ≡ true
 
   -- some point of the row reaches z in dimension d, and none of these lies ahead of it: below it, or where flip is set above it
   pub record Edge (flip : Bool) (n d : ℕ) (z : ℤ) : Type 0 where
     pub ahead : (p : List ℤ) → StandsTo n p → Ahead flip z (word p d)
-    pub reached : Reached lent t i d z
+    pub reached : Reached block t i d z
 
   -- so where there is such a point; `nowhere` while there is none
   abbrev pub End : Bool → ℕ → ℕ → ℤ → Type 0
@@ -72,8 +77,18 @@ module _ (lent : Lent) (t : List ℤ) (i : ℕ) where
 
   -- and in every dimension
   abbrev pub Ends : ℕ → List ℤ → Type 0
-  Ends n ends = (flip : Bool) (d : ℕ) → d < axes lent → End flip n d (endAt flip d ends)
+  Ends n ends = (flip : Bool) (d : ℕ) → d < axes block → End flip n d (endAt flip d ends)
 
   -- what holds of the old ends holds of the new
   abbrev pub Kept : List ℤ → List ℤ → Type 0
-  Kept old new = (n : ℕ) (flip : Bool) (d : ℕ) → d < axes lent → Edge flip n d (endAt flip d old) → Edge flip n d (endAt flip d new)
+  Kept old new = (n : ℕ) (flip : Bool) (d : ℕ) → d < axes block → Edge flip n d (endAt flip d old) → Edge flip n d (endAt flip d new)
+
+-- what the ends of a row are taken on with: the list of shape n + 1, its cut box, and the ends of the shapes up to n
+pub record Widening (block t o list known : List ℤ) (x : Nearby) (cut : Area) (n : ℕ) (ends : List ℤ) : Type 0 where
+  pub subject : Subject block t o (x .i) (x .s)
+  pub listed : Listed block t x list known
+  pub next : x .s ≡ suc n
+  pub held : hasShape block t (x .i .number) (x .s) ≡ true
+  pub box : CutBox block t (x .i .number) (x .s) cut
+  pub filled : inArea (axes block) cut (cut .low) ≡ true
+  pub long : length ends ≡ areaWords

@@ -1,5 +1,5 @@
 // Narrowing one row (document 01): the hull of its points is searched shape by shape, and written into the row. What can forbid it is
-// listed, for each shape once, in a list that the caller lends.
+// listed, for each shape once, in runs that the caller lends.
 mod ends;
 mod hull;
 
@@ -12,17 +12,23 @@ ghost use lib.IntN.{ℤ, pos};
 ghost use Rattle.integers.specs.Integer.{nat, eqZ};
 ghost use Rattle.integers.specs.Below.{valueOr};
 ghost use Rattle.integers.specs.Words.{word, pairsBelow, replaced, sameWords};
-ghost use Rattle.sheet.specs.Layout.{lentOf, axes, rowAt};
+ghost use Rattle.sheet.specs.Layout.{axes, rowAt};
 ghost use Rattle.sheet.specs.Narrow.{narrowOf};
 ghost use Rattle.sheet.specs.Refusal.{refusalRow};
 ghost use Rattle.sheet.specs.Answer.{narrowAnswer, tableAfter};
-ghost use Rattle.sheet.specs.Accepted.{Head, Rows, Block, Table};
+ghost use Rattle.sheet.specs.Accepted.{Head, Rows};
 ghost use Rattle.words.specs.Places.{RowPlace};
-ghost use Rattle.nearby.specs.Listing.{Ready};
+ghost use Rattle.points.specs.Area.{areaWords};
+ghost use Rattle.outline.specs.Outline.{OnRow};
 ghost use Rattle.narrow.specs.Ends.{endAt};
 ghost use Rattle.narrow.specs.Steps.{stepAnswer};
-use nearby::LIST;
-use region::COORDINATES;
+use nearby::known::KNOWN;
+use nearby::suspect;
+use nearby::suspect::FEW;
+use nearby::suspect::FEW_WORDS;
+use nearby::suspect::MANY_WORDS;
+use outline::OUTLINE;
+use points::COORDINATES;
 use sheet::Narrowing;
 use words::Place;
 
@@ -51,10 +57,10 @@ fn put(table: &mut [i64], at: usize, w: i64, moved: bool) -> bool
 
 // Writes row i's words. Whether one of them changed.
 fn write_row(block: &[i64], table: &mut [i64], i: Place, shapes: u32, ends: &[i64]) -> bool
-    requires { ⌜ Head (lentOf (now block)) × Rows (lentOf (now block)) (now table) × RowPlace (lentOf (now block)) (now table) i
-        × (length (now ends) ≡ 8) ⌝ }
-    ensures { λ r. ⌜ (now (table .exit) ≡ replaced (now (table .entry)) (rowAt (lentOf (now (block .entry))) (i .number))
-        (pos shapes ∷ pairsBelow (axes (lentOf (now (block .entry)))) (λ d. endAt false d (now (ends .entry)))
+    requires { ⌜ Head (now block) × Rows (now block) (now table) × RowPlace (now block) (now table) i
+        × (length (now ends) ≡ areaWords) ⌝ }
+    ensures { λ r. ⌜ (now (table .exit) ≡ replaced (now (table .entry)) (rowAt (now (block .entry)) (i .number))
+        (pos shapes ∷ pairsBelow (axes (now (block .entry))) (λ d. endAt false d (now (ends .entry)))
         (λ d. endAt true d (now (ends .entry)))))
         × (r ≡ not (sameWords (now (table .exit)) (now (table .entry)))) ⌝ }
 {
@@ -71,12 +77,17 @@ fn write_row(block: &[i64], table: &mut [i64], i: Place, shapes: u32, ends: &[i6
 }
 
 // Narrows row i of an accepted sheet; the table stays as it was where no place is left.
-pub fn narrow_row(block: &[i64], table: &mut [i64], list: &mut [i64], i: Place) -> Step
-    requires { ⌜ Block (lentOf (now block)) × Table (lentOf (now block)) (now table) × RowPlace (lentOf (now block)) (now table) i
-        × Ready (lentOf (now block)) (now list) ⌝ }
-    ensures { λ r. ⌜ (r ≡ stepAnswer (now (table .entry)) (narrowOf (lentOf (now (block .entry))) (now (table .entry)) (i .number)))
-        × (now (table .exit) ≡ valueOr (now (table .entry)) (narrowOf (lentOf (now (block .entry))) (now (table .entry)) (i .number)))
-        × Ready (lentOf (now (block .entry))) (now (list .exit)) ⌝ }
+pub fn narrow_row(
+    block: &[i64],
+    table: &mut [i64],
+    outline: &[i64; OUTLINE],
+    suspects: &mut [i64],
+    known: &mut [i64; KNOWN],
+    i: Place,
+) -> Step
+    requires { ⌜ OnRow (now block) (now table) (now outline) i ⌝ }
+    ensures { λ r. ⌜ (r ≡ stepAnswer (now (table .entry)) (narrowOf (now (block .entry)) (now (table .entry)) (i .number)))
+        × (now (table .exit) ≡ valueOr (now (table .entry)) (narrowOf (now (block .entry)) (now (table .entry)) (i .number))) ⌝ }
 {
     let mut ends = [
         NOWHERE,
@@ -88,7 +99,7 @@ pub fn narrow_row(block: &[i64], table: &mut [i64], list: &mut [i64], i: Place) 
         -NOWHERE,
         -NOWHERE,
     ];
-    let shapes = hull::row_hull(block, table, list, &mut ends, i);
+    let shapes = hull::row_hull(block, table, outline, suspects, known, &mut ends, i);
     if shapes == 0 {
         return Step::NoPlace;
     }
@@ -98,23 +109,45 @@ pub fn narrow_row(block: &[i64], table: &mut [i64], list: &mut [i64], i: Place) 
     Step::Still
 }
 
+// The same as an answer. The suspects' words may have been any.
+fn narrow_in(
+    block: &[i64],
+    table: &mut [i64],
+    outline: &[i64; OUTLINE],
+    suspects: &mut [i64],
+    i: Place,
+) -> Narrowing
+    requires { ⌜ OnRow (now block) (now table) (now outline) i ⌝ }
+    ensures { λ r. ⌜ (r ≡ narrowAnswer 0 (narrowOf (now (block .entry)) (now (table .entry)) (i .number)))
+        × (now (table .exit) ≡ tableAfter 0 (now (table .entry)) (narrowOf (now (block .entry)) (now (table .entry)) (i .number))) ⌝ }
+{
+    let mut known = [0i64; KNOWN];
+    match narrow_row(block, table, outline, suspects, &mut known, i) {
+        Step::NoPlace => Narrowing::NoPlace,
+        Step::Still => Narrowing::Narrowed,
+        Step::Moved => Narrowing::Narrowed,
+    }
+}
+
 // The kernel's operation: narrows a row of a sheet, or refuses it and leaves the table as it was.
 pub fn narrow(block: &[i64], table: &mut [i64], row: i64) -> Narrowing
-    ensures { λ r. ⌜ (r ≡ narrowAnswer (refusalRow (lentOf (now (block .entry))) (now (table .entry)) row)
-        (narrowOf (lentOf (now (block .entry))) (now (table .entry)) (nat row)))
-        × (now (table .exit) ≡ tableAfter (refusalRow (lentOf (now (block .entry))) (now (table .entry)) row) (now (table .entry))
-        (narrowOf (lentOf (now (block .entry))) (now (table .entry)) (nat row))) ⌝ }
+    ensures { λ r. ⌜ (r ≡ narrowAnswer (refusalRow (now (block .entry)) (now (table .entry)) row)
+        (narrowOf (now (block .entry)) (now (table .entry)) (nat row)))
+        × (now (table .exit) ≡ tableAfter (refusalRow (now (block .entry)) (now (table .entry)) row) (now (table .entry))
+        (narrowOf (now (block .entry)) (now (table .entry)) (nat row))) ⌝ }
 {
     let g = accept::row_refusal(block, table, row);
     if g > 0 {
         return Narrowing::Refused(g);
     }
     let i = words::row_place(block, table, row as usize);
-    let mut list = [0i64; LIST];
-    nearby::prepare(block, &mut list);
-    match narrow_row(block, table, &mut list, i) {
-        Step::NoPlace => Narrowing::NoPlace,
-        Step::Still => Narrowing::Narrowed,
-        Step::Moved => Narrowing::Narrowed,
+    let mut outline = [0i64; OUTLINE];
+    outline::draw(block, &mut outline);
+    let most = suspect::most(block, table, &outline);
+    if most <= FEW {
+        let mut suspects = [0i64; FEW_WORDS];
+        return narrow_in(block, table, &outline, &mut suspects, i);
     }
+    let mut suspects = [0i64; MANY_WORDS];
+    narrow_in(block, table, &outline, &mut suspects, i)
 }

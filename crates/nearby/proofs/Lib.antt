@@ -1,9 +1,5 @@
-pub mod Counting
+pub mod Runs
+pub mod Remembered
 pub mod Covers
-pub mod Head
-pub mod Fours
-pub mod Hulls
-pub mod Entries
+pub mod Threats
 pub mod Gathers
-pub mod Searches
-pub mod Windows

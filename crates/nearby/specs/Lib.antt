@@ -1,6 +1,5 @@
-pub mod Index
-pub mod Linked
-pub mod Counted
-pub mod Hull
+pub mod Places
+pub mod Known
 pub mod Listing
-pub mod Window
+pub mod Adding
+pub mod Due

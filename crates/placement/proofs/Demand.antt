@@ -8,7 +8,6 @@ use Prim.Native.Nat.{ℕ}
 use native.Mathlib.Omega.{arith}
 use lib.IntN.{ℤ}
 use Rattle.integers.proofs.Booleans.{clash}
-use Rattle.sheet.specs.Layout.{Lent}
 use Rattle.sheet.specs.Placement.{good, catalogueGood}
 use Rattle.sheet.specs.Refusal.{refusalPlacement}
 use Rattle.sheet.specs.Answer.{verdictAnswer}
@@ -20,12 +19,12 @@ use Rattle.placement.proofs.Verdicts.{answer-good, answer-not}
 good-not-not : Q.Good ≡ Q.NotGood → ⊥
 good-not-not e = let z : _≡_ {A = ℕ} 0 1 = cc in omega arith
 
-pub promise-demand-2 : (lent : Lent) (t : List ℤ) (finding : Verdict) → refusalPlacement lent t ≡ 0
-    → finding ≡ verdictAnswer (refusalPlacement lent t) (good lent t) → (finding ≡ Q.Good) ↔ (catalogueGood lent t ≡ true)
-promise-demand-2 lent t finding e p = by-case (catalogueGood lent t) refl
+pub promise-demand-2 : (block : List ℤ) (t : List ℤ) (finding : Verdict) → refusalPlacement block t ≡ 0
+    → finding ≡ verdictAnswer (refusalPlacement block t) (good block t) → (finding ≡ Q.Good) ↔ (catalogueGood block t ≡ true)
+promise-demand-2 block t finding e p = by-case (catalogueGood block t) refl
   where
-    by-case : (b : Bool) → catalogueGood lent t ≡ b → (finding ≡ Q.Good) ↔ (catalogueGood lent t ≡ true)
-    by-case true h = (λ q. h, λ q. p ∙ sym (answer-good e (sym (demand-2 lent t e ∙ h))))
+    by-case : (b : Bool) → catalogueGood block t ≡ b → (finding ≡ Q.Good) ↔ (catalogueGood block t ≡ true)
+    by-case true h = (λ q. h, λ q. p ∙ sym (answer-good e (sym (demand-2 block t e ∙ h))))
     by-case false h =
-        let n : finding ≡ Q.NotGood = p ∙ sym (answer-not e (sym (demand-2 lent t e ∙ h))) in
+        let n : finding ≡ Q.NotGood = p ∙ sym (answer-not e (sym (demand-2 block t e ∙ h))) in
         (λ q. absurd (good-not-not (sym q ∙ n)), λ q. clash q h)

@@ -6,18 +6,17 @@ use Prim.Native.Nat.{ℕ, zero, suc, _<_}
 use native.Mathlib.Nat.{not-suc-le-zero}
 use lib.IntN.{ℤ, pos}
 use Rattle.integers.proofs.Booleans.{not-false}
-use Rattle.sheet.specs.Layout.{Lent}
 use Rattle.sheet.specs.Placement.{fixed}
 use Rattle.sheet.specs.Refusal.{_when_, notFixed, refusal, refusalPlacement}
 use Rattle.sheet.specs.Answer.{verdictAnswer}
 use Rattle.sheet.specs.declared.Verdict.the-variants as Q
 use Rattle.sheet.proofs.Accepted.{when-zero, else-zero}
 
-pub checked : (lent : Lent) (t : List ℤ) → refusalPlacement lent t ≡ 0 → (refusal lent t ≡ 0) × (fixed lent t ≡ true)
+pub checked : (block : List ℤ) (t : List ℤ) → refusalPlacement block t ≡ 0 → (refusal block t ≡ 0) × (fixed block t ≡ true)
 unfolding refusalPlacement notFixed
-checked lent t e =
-    let b = else-zero (refusal lent t) (12 when notFixed lent t) e in
-    (b .0, not-false (when-zero 11 (notFixed lent t) (b .1)))
+checked block t e =
+    let b = else-zero (refusal block t) (12 when notFixed block t) e in
+    (b .0, not-false (when-zero 11 (notFixed block t) (b .1)))
 
 -- ---- the answers
 pub answer-refused : {g : ℕ} (b : Bool) → 0 < g → verdictAnswer g b ≡ Q.Refused (pos g)

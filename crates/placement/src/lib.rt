@@ -4,30 +4,39 @@ ghost use mathlib.Core.Bool.{true};
 ghost use Prim.Native.Nat.{ℕ, _<_};
 ghost use Rattle.integers.specs.Integer.{nat};
 ghost use Rattle.integers.specs.Words.{word};
-ghost use Rattle.sheet.specs.Layout.{lentOf, axes, low};
+ghost use Rattle.sheet.specs.Layout.{axes, low};
 ghost use Rattle.sheet.specs.Allowed.{allowed};
-ghost use Rattle.sheet.specs.Placement.{rowFixed, fixed, good};
+ghost use Rattle.sheet.specs.Placement.{rowFixed, good};
 ghost use Rattle.sheet.specs.Refusal.{refusalShape, refusalPlacement};
 ghost use Rattle.sheet.specs.Answer.{pointAnswer, verdictAnswer};
 ghost use Rattle.sheet.specs.Accepted.{Block, Table};
 ghost use Rattle.words.specs.Places.{RowPlace};
-ghost use Rattle.placement.specs.Rows.{rowGood};
-use region::COORDINATES;
+ghost use Rattle.outline.specs.Outline.{Subject};
+ghost use Rattle.placement.specs.Rows.{Looks, FixedSheet, rowGood};
+use outline::OUTLINE;
+use points::COORDINATES;
 use sheet::PointTest;
 use sheet::Verdict;
 use words::Place;
 
 // Row i with shape s is allowed at p: in the cut box, and no rule forbids it.
-pub fn stands(block: &[i64], table: &[i64], i: Place, s: usize, p: [i64; COORDINATES]) -> bool
-    requires { ⌜ Block (lentOf (now block)) × Table (lentOf (now block)) (now table) × RowPlace (lentOf (now block)) (now table) i ⌝ }
-    ensures { λ r. ⌜ r ≡ allowed (lentOf (now (block .entry))) (now (table .entry)) (i .number) s p ⌝ }
+pub fn stands(
+    block: &[i64],
+    table: &[i64],
+    outline: &[i64; OUTLINE],
+    i: Place,
+    s: usize,
+    p: [i64; COORDINATES],
+) -> bool
+    requires { ⌜ Subject (now block) (now table) (now outline) i s ⌝ }
+    ensures { λ r. ⌜ r ≡ allowed (now (block .entry)) (now (table .entry)) (i .number) s p ⌝ }
 {
     let k = words::axes_of(block);
-    let cut = region::cut_box(block, table, i, s);
+    let cut = region::cut_box(block, table, outline, i, s);
     if !cut.holds(k, p) {
         return false;
     }
-    let x = forbid::forbidding_region(block, table, i, s, p);
+    let x = forbid::forbidding_region(block, table, outline, i, s, p);
     let hit = x.hit;
     !hit
 }
@@ -40,15 +49,17 @@ pub fn point_allowed(
     shape: i64,
     p: [i64; COORDINATES],
 ) -> PointTest
-    ensures { λ r. ⌜ r ≡ pointAnswer (refusalShape (lentOf (now (block .entry))) (now (table .entry)) row shape)
-        (allowed (lentOf (now (block .entry))) (now (table .entry)) (nat row) (nat shape) p) ⌝ }
+    ensures { λ r. ⌜ r ≡ pointAnswer (refusalShape (now (block .entry)) (now (table .entry)) row shape)
+        (allowed (now (block .entry)) (now (table .entry)) (nat row) (nat shape) p) ⌝ }
 {
     let g = accept::shape_refusal(block, table, row, shape);
     if g > 0 {
         return PointTest::Refused(g);
     }
     let i = words::row_place(block, table, row as usize);
-    if stands(block, table, i, shape as usize, p) {
+    let mut outline = [0i64; OUTLINE];
+    outline::draw(block, &mut outline);
+    if stands(block, table, &outline, i, shape as usize, p) {
         return PointTest::Allowed;
     }
     PointTest::NotAllowed
@@ -58,9 +69,9 @@ pub fn point_allowed(
 
 // The point of a fixed row.
 fn origin(block: &[i64], table: &[i64], i: Place) -> [i64; COORDINATES]
-    requires { ⌜ Block (lentOf (now block)) × Table (lentOf (now block)) (now table) × RowPlace (lentOf (now block)) (now table) i ⌝ }
-    ensures { λ r. ⌜ ((d : ℕ) → d < axes (lentOf (now (block .entry)))
-        → word r d ≡ low (lentOf (now (block .entry))) (now (table .entry)) (i .number) d) ⌝ }
+    requires { ⌜ Block (now block) × Table (now block) (now table) × RowPlace (now block) (now table) i ⌝ }
+    ensures { λ r. ⌜ ((d : ℕ) → d < axes (now (block .entry))
+        → word r d ≡ low (now (block .entry)) (now (table .entry)) (i .number) d) ⌝ }
 {
     let k = words::axes_of(block);
     let mut p = [0i64; COORDINATES];
@@ -73,25 +84,25 @@ fn origin(block: &[i64], table: &[i64], i: Place) -> [i64; COORDINATES]
 }
 
 // Whether a fixed row stands at its point, with its one shape.
-fn row_good(block: &[i64], table: &[i64], i: Place) -> bool
-    requires { ⌜ Block (lentOf (now block)) × Table (lentOf (now block)) (now table) × RowPlace (lentOf (now block)) (now table) i
-        × (rowFixed (lentOf (now block)) (now table) (i .number) ≡ true) ⌝ }
-    ensures { λ r. ⌜ r ≡ rowGood (lentOf (now (block .entry))) (now (table .entry)) (i .number) ⌝ }
+fn row_good(block: &[i64], table: &[i64], outline: &[i64; OUTLINE], i: Place) -> bool
+    requires { ⌜ Looks (now block) (now table) (now outline) i
+        × (rowFixed (now block) (now table) (i .number) ≡ true) ⌝ }
+    ensures { λ r. ⌜ r ≡ rowGood (now (block .entry)) (now (table .entry)) (i .number) ⌝ }
 {
     let set = words::shapes_of(block, table, i);
     let s = u32::trailing_zeros(set) as usize + 1;
-    stands(block, table, i, s, origin(block, table, i))
+    stands(block, table, outline, i, s, origin(block, table, i))
 }
 
 // Whether every row does.
-fn all_good(block: &[i64], table: &[i64]) -> bool
-    requires { ⌜ Block (lentOf (now block)) × Table (lentOf (now block)) (now table) × (fixed (lentOf (now block)) (now table) ≡ true) ⌝ }
-    ensures { λ r. ⌜ r ≡ good (lentOf (now (block .entry))) (now (table .entry)) ⌝ }
+fn all_good(block: &[i64], table: &[i64], outline: &[i64; OUTLINE]) -> bool
+    requires { ⌜ FixedSheet (now block) (now table) (now outline) ⌝ }
+    ensures { λ r. ⌜ r ≡ good (now (block .entry)) (now (table .entry)) ⌝ }
 {
     let n = words::rows_of(block, table);
     let mut m = 0;
     while m < n {
-        if !row_good(block, table, words::row_place(block, table, m + 1)) {
+        if !row_good(block, table, outline, words::row_place(block, table, m + 1)) {
             return false;
         }
         m += 1;
@@ -100,14 +111,16 @@ fn all_good(block: &[i64], table: &[i64]) -> bool
 }
 
 pub fn check_placement(block: &[i64], table: &[i64]) -> Verdict
-    ensures { λ r. ⌜ r ≡ verdictAnswer (refusalPlacement (lentOf (now (block .entry))) (now (table .entry)))
-        (good (lentOf (now (block .entry))) (now (table .entry))) ⌝ }
+    ensures { λ r. ⌜ r ≡ verdictAnswer (refusalPlacement (now (block .entry)) (now (table .entry)))
+        (good (now (block .entry)) (now (table .entry))) ⌝ }
 {
     let g = accept::placement_refusal(block, table);
     if g > 0 {
         return Verdict::Refused(g);
     }
-    if all_good(block, table) {
+    let mut outline = [0i64; OUTLINE];
+    outline::draw(block, &mut outline);
+    if all_good(block, table, &outline) {
         return Verdict::Good;
     }
     Verdict::NotGood

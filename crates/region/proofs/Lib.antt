@@ -1,6 +1,1 @@
-pub mod Sums
-pub mod Areas
-pub mod Cut
 pub mod Contained
-pub mod Ends
-pub mod Fills

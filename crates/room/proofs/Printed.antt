@@ -12,7 +12,7 @@ use lib.ListN.{length, take, length-append}
 use lib.Seq.{take-all, take-append-seam}
 use Rattle.integers.specs.Below.{valueOr}
 use Rattle.integers.proofs.Ints.{ints}
-use Rattle.sheet.specs.Layout.{lentOf, rowLen, rows}
+use Rattle.sheet.specs.Layout.{rowLen, rows}
 use Rattle.sheet.specs.Refusal.{refusal}
 use Rattle.sheet.specs.Settle.{settleOf}
 use Rattle.sheet.specs.Answer.{settleAnswer, tableAfter}
@@ -29,7 +29,7 @@ use Rattle.room.specs.Answers.{printedOf}
 
 -- with its refusal g and its finding o, settling a table leaves what is printed for them
 pub printed-answer : (g : ℕ) (o : Option (List ℤ)) (block table : List ℤ)
-    → printedOf (settleAnswer g o) block (tableAfter g table o) ≡ printedFor g (lentOf block) o
+    → printedOf (settleAnswer g o) block (tableAfter g table o) ≡ printedFor g (block) o
 unfolding printedOf settleAnswer tableAfter valueOr printedFor
 printed-answer zero none block table = refl
 printed-answer zero (some t) block table = refl
@@ -39,11 +39,11 @@ printed-answer (suc g) o block table = refl
 pub printed-few : (f : Settling) (block table : List ℤ) → length table ≤ 288 → length (printedOf f block table) ≤ 13000
 unfolding printedOf printedFor ascii rows
 printed-few S.Settled block table h =
-    let n = rows (lentOf block) table in
-    let few : n ≤ length table = div-le-self (length table) (rowLen (lentOf block)) in
+    let n = rows (block) table in
+    let few : n ≤ length table = div-le-self (length table) (rowLen (block)) in
     let a = commas-few (pos n ∷ []) in
-    let b = rows-few (rowLen (lentOf block)) n 0 table in
-    let c = length-append (commas (pos n ∷ [])) (rowLines (rowLen (lentOf block)) n 0 table) in
+    let b = rows-few (rowLen (block)) n 0 table in
+    let c = length-append (commas (pos n ∷ [])) (rowLines (rowLen (block)) n 0 table) in
     omega arith
 printed-few S.NoLayout block table h = omega arith
 printed-few (S.Refused g) block table h = let a = commas-few (g ∷ []) in omega arith
@@ -65,12 +65,12 @@ unfolding padded
 padded-room n ws = rw length-append (omega arith)
 
 accepted-sheet : (o : Option Sheet) → refusalRead o ≡ 0
-    → refusal (lentOf (sheetUnless (refusalRead o) o .block)) (sheetUnless (refusalRead o) o .table) ≡ 0
+    → refusal ((sheetUnless (refusalRead o) o .block)) (sheetUnless (refusalRead o) o .table) ≡ 0
 unfolding refusalRead sheetUnless
 accepted-sheet none h = absurd (omega arith)
 accepted-sheet (some w) h = rw h h
 
-accepted-read : (text : List ℕ) → refusalText text ≡ 0 → refusal (lentOf (sheetRead text .block)) (sheetRead text .table) ≡ 0
+accepted-read : (text : List ℕ) → refusalText text ≡ 0 → refusal (sheetRead text .block) (sheetRead text .table) ≡ 0
 unfolding refusalText sheetRead
 accepted-read text h = accepted-sheet (readText text) h
 
@@ -113,13 +113,13 @@ module _ (text : List ℕ) (r : Reading) (e : r ≡ readingOf (reading text)) wh
     none-read = let k = refusal-read in omega ints
 
     abbrev checked : ℕ
-    checked = refusal (lentOf (blockIn r)) (tableIn r)
+    checked = refusal (blockIn r) (tableIn r)
 
     abbrev found : Option (List ℤ)
-    found = settleOf (lentOf (blockIn r)) (tableIn r)
+    found = settleOf (blockIn r) (tableIn r)
 
     none-found : checked ≡ refusalText text
-    none-found = ap₂ (λ (b t : List ℤ). refusal (lentOf b) t) block-read table-read ∙ accepted-read text none-read ∙ sym none-read
+    none-found = ap₂ (λ (b t : List ℤ). refusal (b) t) block-read table-read ∙ accepted-read text none-read ∙ sym none-read
 
     pub printed-settled : {f : Settling} {t : List ℤ} → f ≡ settleAnswer checked found → t ≡ tableAfter checked (tableIn r) found → length t ≤ 288
         → printedOf f (blockIn r) (take 288 t) ≡ printed text
@@ -128,5 +128,5 @@ module _ (text : List ℕ) (r : Reading) (e : r ≡ readingOf (reading text)) wh
         ap (printedOf f (blockIn r)) (take-all 288 t l)
         ∙ ap₂ (λ (g : Settling) (u : List ℤ). printedOf g (blockIn r) u) a b
         ∙ printed-answer checked found (blockIn r) (tableIn r)
-        ∙ ap (λ (g : ℕ). printedFor g (lentOf (blockIn r)) found) none-found
-        ∙ ap₂ (λ (u v : List ℤ). printedFor (refusalText text) (lentOf u) (settleOf (lentOf u) v)) block-read table-read
+        ∙ ap (λ (g : ℕ). printedFor g (blockIn r) found) none-found
+        ∙ ap₂ (λ (u v : List ℤ). printedFor (refusalText text) (u) (settleOf (u) v)) block-read table-read

@@ -5,14 +5,13 @@ use mathlib.Core.List.{List, [], _∷_, _++_}
 use mathlib.Core.Option.{none, some}
 use Prim.Native.Nat.{ℕ}
 use lib.IntN.{ℤ, pos}
-use Rattle.sheet.specs.Layout.{lentOf}
 use Rattle.sheet.specs.Text.{ascii, commas, printedFor, printed}
 use Rattle.sheet.specs.declared.Settling.{Settling}
 use Rattle.sheet.specs.declared.Settling.the-variants as S
 
 unfoldable pub printedOf : Settling → List ℤ → List ℤ → List ℕ
-printedOf S.Settled block table = printedFor 0 (lentOf block) (some table)
-printedOf S.NoLayout block table = printedFor 0 (lentOf block) none
+printedOf S.Settled block table = printedFor 0 (block) (some table)
+printedOf S.NoLayout block table = printedFor 0 (block) none
 printedOf (S.Refused g) block table = ascii "REFUSED" ++ commas (g ∷ [])
 
 -- a text that was read to its end is answered; one that was not is refused with 1, whatever was read of it

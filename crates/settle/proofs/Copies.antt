@@ -9,7 +9,7 @@ use lib.IntN.{ℤ, pos}
 use lib.ListN.{length, take, drop, length-append, length-drop}
 use lib.Seq.{take-at}
 use Rattle.integers.specs.Below.{valueOr}
-use Rattle.sheet.specs.Layout.{Lent, rowLen}
+use Rattle.sheet.specs.Layout.{rowLen}
 use Rattle.sheet.specs.Answer.{settleAnswer, tableAfter}
 use Rattle.sheet.specs.declared.Settling.the-variants.{Settled, NoLayout, Refused}
 use Rattle.sheet.specs.Accepted.{Block, Table}
@@ -23,7 +23,7 @@ module _ (u z : List ℤ) (n : ℕ) (e : length u ≡ n) where
   whole h k = length-append u (drop n z) ∙ (let q = length-drop n z in omega arith)
 
 -- an accepted table fits
-pub fits : {lent : Lent} {t : List ℤ} → Block lent → Table lent t → length t ≤ 288
+pub fits : {block : List ℤ} {t : List ℤ} → Block block → Table block t → length t ≤ 288
 unfolding rowLen
 fits b w = omega (arith, w .whole .long, mul-le-mul (w .whole .few-rows) (row-short (b .head .few-axes)))
   where

@@ -13,7 +13,7 @@ use Rattle.integers.specs.Words.{word, sameWords}
 use Rattle.integers.proofs.Booleans.{clash}
 use Rattle.integers.proofs.Ints.{ints}
 use Rattle.integers.proofs.Lists.{same-eq, same-refl}
-use Rattle.sheet.specs.Layout.{Lent, axes, rules, rows}
+use Rattle.sheet.specs.Layout.{axes, rules, rows}
 use Rattle.sheet.specs.Narrow.{narrowOf}
 use Rattle.sheet.specs.Settle.{settleOf}
 use Rattle.sheet.proofs.Local.{Clear}
@@ -73,62 +73,62 @@ cleared-other : {due more : List ℤ} (i m : ℕ) → more ≡ due → (m ≡ i 
 cleared-other {more = more} i m q ne = todo-other more i m (pos 0) ne ∙ ap (λ (l : List ℤ). todo l m) q
 
 -- ---- one turn: a row, number i + 1, was narrowed in v; its answer is r, and the table left w
-pub record Turn (lent : Lent) (t v w due : List ℤ) (i row : ℕ) (r : Step) : Type 0 where
-  pub dims : 0 < axes lent
-  pub way : OnTheWay lent t v due
-  pub below : i < rows lent t
-  pub few : rows lent t ≤ 32
+pub record Turn (block : List ℤ) (t v w due : List ℤ) (i row : ℕ) (r : Step) : Type 0 where
+  pub dims : 0 < axes block
+  pub way : OnTheWay block t v due
+  pub below : i < rows block t
+  pub few : rows block t ≤ 32
   pub number : row ≡ i + 1
-  pub told : r ≡ stepAnswer v (narrowOf lent v row)
-  pub left : w ≡ valueOr v (narrowOf lent v row)
+  pub told : r ≡ stepAnswer v (narrowOf block v row)
+  pub left : w ≡ valueOr v (narrowOf block v row)
 
-module _ {lent : Lent} {t v w due : List ℤ} {i row : ℕ} {r : Step} (x : Turn lent t v w due i row r) where
-  found : narrowOf lent v row ≡ narrow lent i v
-  found = ap (narrowOf lent v) (x .number ∙ add-one i)
+module _ {block : List ℤ} {t v w due : List ℤ} {i row : ℕ} {r : Step} (x : Turn block t v w due i row r) where
+  found : narrowOf block v row ≡ narrow block i v
+  found = ap (narrowOf block v) (x .number ∙ add-one i)
 
-  pub turn-none : r ≡ NoPlace → settleOf lent t ≡ none
+  pub turn-none : r ≡ NoPlace → settleOf block t ≡ none
   turn-none e =
-      worked-none lent (x .dims) t v due (x .way) i (x .below) (sym found ∙ answer-none v (narrowOf lent v row) (sym e ∙ x .told))
+      worked-none block (x .dims) t v due (x .way) i (x .below) (sym found ∙ answer-none v (narrowOf block v row) (sym e ∙ x .told))
 
   -- nothing moved
   module _ (e : r ≡ Still) where
-    stood : narrowOf lent v row ≡ some v
-    stood = answer-still v (narrowOf lent v row) (sym e ∙ x .told)
+    stood : narrowOf block v row ≡ some v
+    stood = answer-still v (narrowOf block v row) (sym e ∙ x .told)
 
     same : v ≡ w
     same = sym (left-still v w stood (x .left))
 
     module _ {more : List ℤ} (q : more ≡ due) where
-      pub turn-still : OnTheWay lent t w (cleared more i)
+      pub turn-still : OnTheWay block t w (cleared more i)
       turn-still =
-          subst (λ (u : List ℤ). OnTheWay lent t u (cleared more i)) same
-          (worked-still lent (x .dims) t v due (x .way) i (x .below) (cleared more i) (sym found ∙ stood) (λ m ne. cleared-other i m q ne))
+          subst (λ (u : List ℤ). OnTheWay block t u (cleared more i)) same
+          (worked-still block (x .dims) t v due (x .way) i (x .below) (cleared more i) (sym found ∙ stood) (λ m ne. cleared-other i m q ne))
 
-      pub still-less : todo due i ≡ true → toGo lent (rows lent t) w (cleared more i) < toGo lent (rows lent t) v due
+      pub still-less : todo due i ≡ true → toGo block (rows block t) w (cleared more i) < toGo block (rows block t) v due
       still-less set =
-          subst (λ (u : List ℤ). toGo lent (rows lent t) u (cleared more i) < toGo lent (rows lent t) v due) same
-          (less-rows lent (rows lent t) (x .few) v due (cleared more i) i (x .below) set (cleared-at more i) (λ m ne. cleared-other i m q ne))
+          subst (λ (u : List ℤ). toGo block (rows block t) u (cleared more i) < toGo block (rows block t) v due) same
+          (less-rows block (rows block t) (x .few) v due (cleared more i) i (x .below) set (cleared-at more i) (λ m ne. cleared-other i m q ne))
 
   -- a word moved
   module _ (e : r ≡ Moved) where
-    moved : (narrowOf lent v row ≡ some w) × (w ≡ v → ⊥)
-    moved = answer-moved v w (narrowOf lent v row) (sym e ∙ x .told) (x .left)
+    moved : (narrowOf block v row ≡ some w) × (w ≡ v → ⊥)
+    moved = answer-moved v w (narrowOf block v row) (sym e ∙ x .told) (x .left)
 
-    pub turn-good : Good lent t w
-    turn-good = worked-good lent (x .dims) t v due (x .way) i (x .below) w (sym found ∙ moved .0)
+    pub turn-good : Good block t w
+    turn-good = worked-good block (x .dims) t v due (x .way) i (x .below) w (sym found ∙ moved .0)
 
-    pub turn-moved : {n : ℕ} {set more : List ℤ} → more ≡ set → n ≡ rows lent t
-        → Touched n due (λ m. (q : ℕ) → q < rules lent → Spared lent w row q m) set → OnTheWay lent t w (cleared more i)
+    pub turn-moved : {n : ℕ} {set more : List ℤ} → more ≡ set → n ≡ rows block t
+        → Touched n due (λ m. (q : ℕ) → q < rules block → Spared block w row q m) set → OnTheWay block t w (cleared more i)
     turn-moved {more = more} q k y =
-        worked-moved lent (x .dims) t v due (x .way) i (x .below) w (sym found ∙ moved .0) (cleared more i)
+        worked-moved block (x .dims) t v due (x .way) i (x .below) w (sym found ∙ moved .0) (cleared more i)
         (λ m h ne c. let a = y .left m (omega (arith, h, k)) (sym (cleared-other i m q ne) ∙ c) in (a .0, clear-by m (a .1)))
       where
-        clear-by : (m : ℕ) → ((q : ℕ) → q < rules lent → Spared lent w row q m) → Clear lent w (suc i) (suc m)
+        clear-by : (m : ℕ) → ((q : ℕ) → q < rules block → Spared block w row q m) → Clear block w (suc i) (suc m)
         clear-by m spared =
-            subst (λ (j : ℕ). Clear lent w j (suc m)) (x .number ∙ add-one i)
+            subst (λ (j : ℕ). Clear block w j (suc m)) (x .number ∙ add-one i)
             (record { clear = λ q s p l kind names-i names held ranged. spared q l kind names-i names .clear s p held ranged })
 
-    pub moved-less : (more : List ℤ) → toGo lent (rows lent t) w more < toGo lent (rows lent t) v due
+    pub moved-less : (more : List ℤ) → toGo block (rows block t) w more < toGo block (rows block t) v due
     moved-less more =
-        less-extent lent (rows lent t) (x .few) v w due more
-        (worked-falls lent (x .dims) t v due (x .way) i (x .below) w (sym found ∙ moved .0) (moved .1))
+        less-extent block (rows block t) (x .few) v w due more
+        (worked-falls block (x .dims) t v due (x .way) i (x .below) w (sym found ∙ moved .0) (moved .1))

@@ -15,74 +15,74 @@ use Rattle.fixpoint.specs.Run.{Way}
 use Rattle.fixpoint.proofs.Between.{way-start, way-step}
 use Rattle.fixpoint.proofs.Settle.{settles-none}
 use Rattle.fixpoint.proofs.Worklist.{Marks, marks-all, marks-still, marks-again, marks-settled}
-use Rattle.sheet.specs.Layout.{Lent, axes, rows}
+use Rattle.sheet.specs.Layout.{axes, rows}
 use Rattle.sheet.specs.Settle.{Settled, Inside, extent, settleOf}
 use Rattle.sheet.proofs.Accepted.{rows-same}
 use Rattle.sheet.proofs.Local.{Clear, narrow-again, narrow-clear}
 use Rattle.sheet.proofs.Demand3.{Good, narrow, laws}
 use Rattle.settle.specs.Todo.{todo}
 
-module _ (lent : Lent) where
+module _ (block : List ℤ) where
   -- v comes from t by narrowing rows, and narrowing a row that is not to be narrowed moves nothing
   pub record OnTheWay (t v due : List ℤ) : Type 0 where
-    pub way : Way (Inside lent) (Settled lent) (Good lent t) t v
-    pub marks : Marks (narrow lent) (rows lent t) (todo due) v
+    pub way : Way (Inside block) (Settled block) (Good block t) t v
+    pub marks : Marks (narrow block) (rows block t) (todo due) v
 
   -- it falls with each narrowing: the extent with one that moves a word, the number of rows to narrow with any other
   unfoldable pub toGo : ℕ → List ℤ → List ℤ → ℕ
-  toGo n v due = extent lent v * 33 + sumBelow n (λ m. cond (todo due m) 1 0)
+  toGo n v due = extent block v * 33 + sumBelow n (λ m. cond (todo due m) 1 0)
 
-module _ (lent : Lent) (dims : 0 < axes lent) (t : List ℤ) where
+module _ (block : List ℤ) (dims : 0 < axes block) (t : List ℤ) where
   abbrev n : ℕ
-  n = rows lent t
+  n = rows block t
 
-  row-of : {v : List ℤ} (m : ℕ) → Good lent t v → m < n → suc m ≤ rows lent v
-  row-of {v} m g h = subst (λ (k : ℕ). m < k) (sym (rows-same lent v t (g .as-long))) h
+  row-of : {v : List ℤ} (m : ℕ) → Good block t v → m < n → suc m ≤ rows block v
+  row-of {v} m g h = subst (λ (k : ℕ). m < k) (sym (rows-same block v t (g .as-long))) h
 
   -- ---- the loop
-  pub worked-start : (due : List ℤ) → Good lent t t → ((m : ℕ) → m < n → todo due m ≡ true) → OnTheWay lent t t due
-  worked-start due g h = record { way = way-start (laws lent dims t) g; marks = marks-all h }
+  pub worked-start : (due : List ℤ) → Good block t t → ((m : ℕ) → m < n → todo due m ≡ true) → OnTheWay block t t due
+  worked-start due g h = record { way = way-start (laws block dims t) g; marks = marks-all h }
 
-  module _ (v due : List ℤ) (x : OnTheWay lent t v due) where
+  module _ (v due : List ℤ) (x : OnTheWay block t v due) where
     -- no row is left to narrow
-    pub worked-end : ((m : ℕ) → m < n → todo due m ≡ false) → settleOf lent t ≡ some v
+    pub worked-end : ((m : ℕ) → m < n → todo due m ≡ false) → settleOf block t ≡ some v
     unfolding settleOf
-    worked-end h = marks-settled (laws lent dims t) (x .way) (x .marks) h
+    worked-end h = marks-settled (laws block dims t) (x .way) (x .marks) h
 
     module _ (i : ℕ) (li : i < n) where
-      pub worked-none : narrow lent i v ≡ none → settleOf lent t ≡ none
+      pub worked-none : narrow block i v ≡ none → settleOf block t ≡ none
       unfolding settleOf
-      worked-none e = settles-none (laws lent dims t) li (x .way) e
+      worked-none e = settles-none (laws block dims t) li (x .way) e
 
       -- nothing moved
-      pub worked-still : (due' : List ℤ) → narrow lent i v ≡ some v
-          → ((m : ℕ) → (m ≡ i → ⊥) → todo due' m ≡ todo due m) → OnTheWay lent t v due'
+      pub worked-still : (due' : List ℤ) → narrow block i v ≡ some v
+          → ((m : ℕ) → (m ≡ i → ⊥) → todo due' m ≡ todo due m) → OnTheWay block t v due'
       worked-still due' e same = record { way = x .way; marks = marks-still (x .marks) e (λ j lt ne c. sym (same j ne) ∙ c) }
 
       -- something moved: a row need not be narrowed again if row i forbids it nothing
-      module _ (w : List ℤ) (e : narrow lent i v ≡ some w) where
-        pub worked-good : Good lent t w
-        worked-good = laws lent dims t .good li (x .way .good) e
+      module _ (w : List ℤ) (e : narrow block i v ≡ some w) where
+        pub worked-good : Good block t w
+        worked-good = laws block dims t .good li (x .way .good) e
 
-        stays : (j : ℕ) → j < n → (j ≡ i → ⊥) → todo due j ≡ false → Clear lent w (suc i) (suc j) → narrow lent j w ≡ some w
+        stays : (j : ℕ) → j < n → (j ≡ i → ⊥) → todo due j ≡ false → Clear block w (suc i) (suc j) → narrow block j w ≡ some w
         stays j lj ne c clear =
-            narrow-clear lent v w (x .way .good .table) (worked-good .table) (suc i) (omega arith) (row-of i (x .way .good) li) e
+            narrow-clear block v w (x .way .good .table) (worked-good .table) (suc i) (omega arith) (row-of i (x .way .good) li) e
             (suc j) (omega arith) (row-of j (x .way .good) lj) (λ z. ne (omega arith)) clear (x .marks .clean j lj c)
 
         pub worked-moved : (due' : List ℤ)
-            → ((m : ℕ) → m < n → (m ≡ i → ⊥) → todo due' m ≡ false → (todo due m ≡ false) × Clear lent w (suc i) (suc m))
-            → OnTheWay lent t w due'
+            → ((m : ℕ) → m < n → (m ≡ i → ⊥) → todo due' m ≡ false → (todo due m ≡ false) × Clear block w (suc i) (suc m))
+            → OnTheWay block t w due'
         worked-moved due' spared =
             record {
-              way = way-step (laws lent dims t) li (x .way) e;
+              way = way-step (laws block dims t) li (x .way) e;
               marks =
                   marks-again
-                  (narrow-again lent v w (x .way .good .table) (worked-good .table) (suc i) (omega arith) (row-of i (x .way .good) li) e)
+                  (narrow-again block v w (x .way .good .table) (worked-good .table) (suc i) (omega arith) (row-of i (x .way .good) li) e)
                   (λ j lt ne c. let s = spared j lt ne c in stays j lt ne (s .0) (s .1));
             }
 
-        pub worked-falls : (w ≡ v → ⊥) → extent lent w < extent lent v
-        worked-falls ne = ⊎-elim (λ q. absurd (ne q)) (λ l. l) (laws lent dims t .falls li (x .way .good) e)
+        pub worked-falls : (w ≡ v → ⊥) → extent block w < extent block v
+        worked-falls ne = ⊎-elim (λ q. absurd (ne q)) (λ l. l) (laws block dims t .falls li (x .way .good) e)
 
 -- ---- the measure
 abbrev one : List ℤ → ℕ → ℕ
@@ -97,10 +97,10 @@ one-count (suc n) due = by (todo due n) refl (one-count n due)
     by true e h = rw e (omega arith)
     by false e h = rw e (omega arith)
 
-module _ (lent : Lent) (n : ℕ) (few : n ≤ 32) where
+module _ (block : List ℤ) (n : ℕ) (few : n ≤ 32) where
   -- a row that moved nothing is done
   pub less-rows : (v due due' : List ℤ) (i : ℕ) → i < n → todo due i ≡ true → todo due' i ≡ false
-      → ((m : ℕ) → (m ≡ i → ⊥) → todo due' m ≡ todo due m) → toGo lent n v due' < toGo lent n v due
+      → ((m : ℕ) → (m ≡ i → ⊥) → todo due' m ≡ todo due m) → toGo block n v due' < toGo block n v due
   unfolding toGo
   less-rows v due due' i li e e' same =
       let s : sumBelow n (one due') < sumBelow n (one due) = sum-lt no-more i li (rw (e, e') (omega arith)) in
@@ -113,6 +113,6 @@ module _ (lent : Lent) (n : ℕ) (few : n ≤ 32) where
           (λ ne. rw (same m ne) (omega arith)) (same-or m i)
 
   -- a word moved
-  pub less-extent : (v w due due' : List ℤ) → extent lent w < extent lent v → toGo lent n w due' < toGo lent n v due
+  pub less-extent : (v w due due' : List ℤ) → extent block w < extent block v → toGo block n w due' < toGo block n v due
   unfolding toGo
   less-extent v w due due' h = omega (arith, one-count n due', mul-le-mul-right 33 h)

@@ -5,23 +5,22 @@ use mathlib.Core.Path.{_≡_}
 use mathlib.Core.Logic.{_↔_}
 use mathlib.Core.List.{List}
 use lib.IntN.{ℤ}
-use Rattle.sheet.specs.Layout.{Lent}
 use Rattle.sheet.specs.Refusal.{refusal}
 use Rattle.sheet.specs.Settle.{Settled, Inside, settleOf}
 use Rattle.sheet.specs.Answer.{settleAnswer, tableAfter}
 use Rattle.sheet.specs.declared.Settling.{Settling}
 use Rattle.sheet.specs.declared.Settling.the-variants as S
 
-module _ (lent : Lent) (given : List ℤ) where
+module _ (block : List ℤ) (given : List ℤ) where
   -- no settled table lies inside the given one
   abbrev pub NoneInside : Type 0
-  NoneInside = (u : List ℤ) → Settled lent u → Inside lent u given → ⊥
+  NoneInside = (u : List ℤ) → Settled block u → Inside block u given → ⊥
 
   -- a settled table that lies inside the given one, and every settled table inside the given one lies inside it
   pub record Left (left : List ℤ) : Type 0 where
-    pub settled : Settled lent left
-    pub inside : Inside lent left given
-    pub holds : (u : List ℤ) → Settled lent u → Inside lent u given → Inside lent u left
+    pub settled : Settled block left
+    pub inside : Inside block left given
+    pub holds : (u : List ℤ) → Settled block u → Inside block u given → Inside block u left
 
   pub record Demand3 (finding : Settling) (left : List ℤ) : Type 0 where
     -- 'no layout' exactly when no settled table lies inside the given one, which then stays as it was
@@ -33,4 +32,4 @@ module _ (lent : Lent) (given : List ℤ) where
   -- the promise, on any words: the first refusal that applies, or what the definition of settling finds
   abbrev pub Promise : Settling → List ℤ → Type 0
   Promise finding left =
-      (finding ≡ settleAnswer (refusal lent given) (settleOf lent given)) × (left ≡ tableAfter (refusal lent given) given (settleOf lent given))
+      (finding ≡ settleAnswer (refusal block given) (settleOf block given)) × (left ≡ tableAfter (refusal block given) given (settleOf block given))

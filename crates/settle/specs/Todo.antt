@@ -6,16 +6,20 @@ use mathlib.Core.List.{List}
 use mathlib.Core.Option.{none, some}
 use Prim.Native.Nat.{ℕ, suc, _≤_, _<_}
 use lib.IntN.{ℤ, pos}
+use lib.ListN.{length}
 use Rattle.integers.specs.Integer.{eqZ}
 use Rattle.integers.specs.Words.{word}
-use Rattle.sheet.specs.Layout.{Lent, isNonOverlap, namesRow, rows}
+use Rattle.sheet.specs.Layout.{isNonOverlap, namesRow, rows}
 use Rattle.sheet.specs.Settle.{settleOf}
 use Rattle.sheet.specs.Answer.{settleAnswer, tableAfter}
-use Rattle.sheet.specs.Accepted.{Block, Table}
 use Rattle.sheet.specs.declared.Settling.{Settling}
-use Rattle.words.specs.Places.{RowPlace}
 use Rattle.words.specs.declared.Place.{Place}
-use Rattle.nearby.specs.Listing.{Ready, Unreached}
+use Rattle.outline.specs.Outline.{OnRow}
+use Rattle.nearby.specs.Due.{Unreached}
+
+-- the most rows of a table
+abbrev pub rowsMost : ℕ
+rowsMost = 32
 
 -- row m + 1 is to be narrowed
 unfoldable pub todo : List ℤ → ℕ → Bool
@@ -31,23 +35,22 @@ pub record Next (due : List ℤ) (n r : ℕ) : Type 0 where
 pub record Touched (n : ℕ) (due : List ℤ) (spared : ℕ → Type 0) (more : List ℤ) : Type 0 where
   pub left : (m : ℕ) → m < n → todo more m ≡ false → (todo due m ≡ false) × spared m
 
-module _ (lent : Lent) where
-  -- row i of an accepted sheet, and a list that is ready
-  pub record Asks (t list : List ℤ) (i : Place) : Type 0 where
-    pub block : Block lent
-    pub table : Table lent t
-    pub ready : Ready lent list
-    pub row : RowPlace lent t i
+module _ (block : List ℤ) where
+  -- row i, which moved, the number of rows, and a word for each row that a table may have
+  pub record Touching (t o : List ℤ) (i : Place) (n : ℕ) (due : List ℤ) : Type 0 where
+    pub on : OnRow block t o i
+    pub count : n ≡ rows block t
+    pub long : length due ≡ rowsMost
 
   -- if rule r keeps rows i and m + 1 apart, row i forbids row m + 1 no point of its ranges by it
   abbrev pub Spared : List ℤ → ℕ → ℕ → ℕ → Type 0
-  Spared t i r m = isNonOverlap lent r ≡ true → namesRow lent r i ≡ true → namesRow lent r (suc m) ≡ true → Unreached lent t r i (suc m)
+  Spared t i r m = isNonOverlap block r ≡ true → namesRow block r i ≡ true → namesRow block r (suc m) ≡ true → Unreached block t r i (suc m)
 
   -- what the loop answers on t, and leaves: true, and the table that settling finds; false where it finds none
   pub record FoundBy (t : List ℤ) (r : Bool) (v : List ℤ) : Type 0 where
-    pub yes : r ≡ true → settleOf lent t ≡ some v
-    pub no : r ≡ false → settleOf lent t ≡ none
+    pub yes : r ≡ true → settleOf block t ≡ some v
+    pub no : r ≡ false → settleOf block t ≡ none
 
   -- the finding on a table t that is accepted, and what is left in its place
   abbrev pub Answered : List ℤ → Settling → List ℤ → Type 0
-  Answered t finding left = (finding ≡ settleAnswer 0 (settleOf lent t)) × (left ≡ tableAfter 0 t (settleOf lent t))
+  Answered t finding left = (finding ≡ settleAnswer 0 (settleOf block t)) × (left ≡ tableAfter 0 t (settleOf block t))

@@ -22,7 +22,7 @@ use Rattle.integers.proofs.Ints.{ints, eqZ-eq, le-of-test, test-of-le, within-t
 use Rattle.integers.proofs.Machine.{within-test, within-pos, within-by, from-within}
 use Rattle.integers.proofs.Ranges.{nat-from}
 use Rattle.integers.proofs.Sets.{small-set, member-ge-1}
-use Rattle.sheet.specs.Layout.{Lent, dims, axes, boxes, rules, rowLen, shapeOf, offset, size, isOf, validBox, kind}
+use Rattle.sheet.specs.Layout.{dims, axes, boxes, rules, rowLen, shapeOf, offset, size, isOf, validBox, kind}
 use Rattle.sheet.specs.Layout.{isNonOverlap, isContainment, dimSet, rowSet, roomLow, roomHigh, namesDim, validEnds}
 use Rattle.sheet.specs.Layout.{validRule, rows, shapeSet, low, high, hasShape, validRow}
 use Rattle.sheet.specs.Refusal.{_when_, _else_, badHead, badCounts, badBlockLength, badTableLength, badBox, badRule, badRow, refusal}
@@ -48,7 +48,7 @@ unfolding _else_
 zero-else e k = ap₂ _else_ e k
 
 -- ---- words in their ranges
-counted : (a n : ℕ) {z : ℤ} → n ≤ 4294967295 → within (pos a) (pos n) z ≡ true → Count z
+pub counted : (a n : ℕ) {z : ℤ} → n ≤ 4294967295 → within (pos a) (pos n) z ≡ true → Count z
 counted a n l e = let w = within-true e in record { from = omega ints; upto = omega ints }
 
 is-count : (n : ℕ) {z : ℤ} → n ≤ 4294967295 → eqZ z (pos n) ≡ true → Count z
@@ -63,18 +63,18 @@ is-zero n e = within-by (eqZ-eq e) (within-pos (omega arith))
 power : (n m : ℕ) → n ≤ m → m ≤ 32 → 2 ^ n - 1 ≤ 4294967295
 power n m h l = let p : 2 ^ n ≤ 2 ^ 32 = pow-mono (le-trans h l) in omega arith
 
-module _ (lent : Lent) where
+module _ (block : List ℤ) where
   -- ---- the block's records
   abbrev box-test : ℕ → ℕ → Bool
-  box-test b d = within (minus 10000) (pos 10000) (offset lent b d) && within (pos 1) (pos 10000) (size lent b d)
+  box-test b d = within (minus 10000) (pos 10000) (offset block b d) && within (pos 1) (pos 10000) (size block b d)
 
   record ValidRule (n r : ℕ) : Type 0 where
-    kinds : (isNonOverlap lent r || isContainment lent r) ≡ true
-    dim-set : within (pos 1) (pos (2 ^ dims lent - 1)) (dimSet lent r) ≡ true
-    row-set : within (pos 1) (pos (2 ^ n - 1)) (rowSet lent r) ≡ true
-    ends : (d : ℕ) → d < dims lent → validEnds lent r d ≡ true
+    kinds : (isNonOverlap block r || isContainment block r) ≡ true
+    dim-set : within (pos 1) (pos (2 ^ dims block - 1)) (dimSet block r) ≡ true
+    row-set : within (pos 1) (pos (2 ^ n - 1)) (rowSet block r) ≡ true
+    ends : (d : ℕ) → d < dims block → validEnds block r d ≡ true
 
-  rule-parts : (n r : ℕ) → validRule lent n r ≡ true → ValidRule n r
+  rule-parts : (n r : ℕ) → validRule block n r ≡ true → ValidRule n r
   unfolding validRule
   rule-parts n r e =
       let a = and-true e in
@@ -82,70 +82,70 @@ module _ (lent : Lent) where
       let c = and-true (b .0) in
       record { kinds = c .0; dim-set = c .1; row-set = b .1; ends = λ d l. all-at _ (a .1) d l }
 
-  kind-count : (r : ℕ) → (isNonOverlap lent r || isContainment lent r) ≡ true → Count (kind lent r)
+  kind-count : (r : ℕ) → (isNonOverlap block r || isContainment block r) ≡ true → Count (kind block r)
   unfolding isNonOverlap isContainment
   kind-count r e = ⊎-elim (λ x. is-count 1 (omega arith) x) (λ x. is-count 2 (omega arith) x) (or-true e)
 
-  end-bounds : (r d : ℕ) → validEnds lent r d ≡ true → Within 1000000 (roomLow lent r d) × Within 1000000 (roomHigh lent r d)
+  end-bounds : (r d : ℕ) → validEnds block r d ≡ true → Within 1000000 (roomLow block r d) × Within 1000000 (roomHigh block r d)
   unfolding validEnds
-  end-bounds r d e = pick (isContainment lent r && namesDim lent r d) e
+  end-bounds r d e = pick (isContainment block r && namesDim block r d) e
     where
       pick : (b : Bool)
           → cond b
-          (within (minus 1000000) (pos 1000000) (roomLow lent r d) && within (minus 1000000) (pos 1000000) (roomHigh lent r d)
-          && leZ (roomLow lent r d) (roomHigh lent r d))
-          (eqZ (roomLow lent r d) (pos 0) && eqZ (roomHigh lent r d) (pos 0)) ≡ true
-          → Within 1000000 (roomLow lent r d) × Within 1000000 (roomHigh lent r d)
+          (within (minus 1000000) (pos 1000000) (roomLow block r d) && within (minus 1000000) (pos 1000000) (roomHigh block r d)
+          && leZ (roomLow block r d) (roomHigh block r d))
+          (eqZ (roomLow block r d) (pos 0) && eqZ (roomHigh block r d) (pos 0)) ≡ true
+          → Within 1000000 (roomLow block r d) × Within 1000000 (roomHigh block r d)
       pick true u = let a = and-true u in let b = and-true (a .0) in (within-test (b .0), within-test (b .1))
       pick false u = let a = and-true u in (is-zero 1000000 (a .0), is-zero 1000000 (a .1))
 
   -- ---- a row of the table
   record ValidRow (t : List ℤ) (i : ℕ) : Type 0 where
-    set-from : pos 1 ≤ℤ shapeSet lent t i
-    set-upto : shapeSet lent t i ≤ℤ pos 4294967295
-    boxed : (s : ℕ) → hasShape lent t i s ≡ true → Boxed lent s
-    low-in : (d : ℕ) → d < axes lent → Within 1000000 (low lent t i d)
-    high-in : (d : ℕ) → d < axes lent → Within 1000000 (high lent t i d)
-    ordered : (d : ℕ) → d < axes lent → low lent t i d ≤ℤ high lent t i d
+    set-from : pos 1 ≤ℤ shapeSet block t i
+    set-upto : shapeSet block t i ≤ℤ pos 4294967295
+    boxed : (s : ℕ) → hasShape block t i s ≡ true → Boxed block s
+    low-in : (d : ℕ) → d < axes block → Within 1000000 (low block t i d)
+    high-in : (d : ℕ) → d < axes block → Within 1000000 (high block t i d)
+    ordered : (d : ℕ) → d < axes block → low block t i d ≤ℤ high block t i d
 
   abbrev shape-test : List ℤ → ℕ → ℕ → Bool
-  shape-test t i s = hasShape lent t i s ⇒ anyBelow (boxes lent) (λ b. isOf lent b s)
+  shape-test t i s = hasShape block t i s ⇒ anyBelow (boxes block) (λ b. isOf block b s)
 
   abbrev range-test : List ℤ → ℕ → ℕ → Bool
   range-test t i d =
-      within (minus 1000000) (pos 1000000) (low lent t i d) && within (minus 1000000) (pos 1000000) (high lent t i d)
-      && leZ (low lent t i d) (high lent t i d)
+      within (minus 1000000) (pos 1000000) (low block t i d) && within (minus 1000000) (pos 1000000) (high block t i d)
+      && leZ (low block t i d) (high block t i d)
 
   abbrev Range : List ℤ → ℕ → ℕ → Type 0
-  Range t i d = Within 1000000 (low lent t i d) × Within 1000000 (high lent t i d) × (low lent t i d ≤ℤ high lent t i d)
+  Range t i d = Within 1000000 (low block t i d) × Within 1000000 (high block t i d) × (low block t i d ≤ℤ high block t i d)
 
   range-parts : (t : List ℤ) (i d : ℕ) → range-test t i d ≡ true → Range t i d
   range-parts t i d e = let a = and-true e in let b = and-true (a .0) in (within-test (b .0), within-test (b .1), le-of-test (a .1))
 
-  row-parts : (t : List ℤ) (i : ℕ) → validRow lent t i ≡ true → ValidRow t i
+  row-parts : (t : List ℤ) (i : ℕ) → validRow block t i ≡ true → ValidRow t i
   unfolding validRow hasShape
   row-parts t i e =
       let p = and-true e in
       let q = and-true (p .0) in
       let set = within-true (q .0) in
-      let ends : (d : ℕ) → d < axes lent → Range t i d = λ d l. range-parts t i d (all-at (range-test t i) (p .1) d l) in
+      let ends : (d : ℕ) → d < axes block → Range t i d = λ d l. range-parts t i d (all-at (range-test t i) (p .1) d l) in
       record {
         set-from = set .0;
         set-upto = set .1;
         boxed = λ s h.
-            let w = any-at (implies-true (upto-at (shape-test t i) (q .1) s (member-ge-1 (shapeSet lent t i) h) (small-set {n = 32} (set .1) h)) h) in
+            let w = any-at (implies-true (upto-at (shape-test t i) (q .1) s (member-ge-1 (shapeSet block t i) h) (small-set {n = 32} (set .1) h)) h) in
             record { box = w .0; below = w .1; is = w .2 };
         low-in = λ d l. ends d l .0;
         high-in = λ d l. ends d l .1;
         ordered = λ d l. ends d l .2;
       }
 
-  row-by : (t : List ℤ) (i : ℕ) → ValidRow t i → validRow lent t i ≡ true
+  row-by : (t : List ℤ) (i : ℕ) → ValidRow t i → validRow block t i ≡ true
   unfolding validRow
   row-by t i v =
       true-and
       (true-and (true-within (v .set-from) (v .set-upto))
-      (at-upto (shape-test t i) (λ s h k. true-implies (λ e. let b = v .boxed s e in any-true (λ b. isOf lent b s) (b .box) (b .below) (b .is)))))
+      (at-upto (shape-test t i) (λ s h k. true-implies (λ e. let b = v .boxed s e in any-true (λ b. isOf block b s) (b .box) (b .below) (b .is)))))
       (at-all (λ d l.
       let a = from-within (v .low-in d l) in
       let b = from-within (v .high-in d l) in
@@ -154,76 +154,76 @@ module _ (lent : Lent) where
   module _ (t : List ℤ) where
     -- ---- no check applies
     pub record Passed : Type 0 where
-      pub head : badHead lent ≡ false
-      pub counts : badCounts lent ≡ false
-      pub block-length : badBlockLength lent ≡ false
-      pub table-length : badTableLength lent t ≡ false
-      pub box : badBox lent ≡ false
-      pub rule : badRule lent t ≡ false
-      pub row : badRow lent t ≡ false
+      pub head : badHead block ≡ false
+      pub counts : badCounts block ≡ false
+      pub block-length : badBlockLength block ≡ false
+      pub table-length : badTableLength block t ≡ false
+      pub box : badBox block ≡ false
+      pub rule : badRule block t ≡ false
+      pub row : badRow block t ≡ false
 
-    pub passed : refusal lent t ≡ 0 → Passed
+    pub passed : refusal block t ≡ 0 → Passed
     unfolding refusal
     passed accepted =
-        let a = else-zero (2 when badHead lent) _ accepted in
-        let b = else-zero (3 when badCounts lent) _ (a .1) in
-        let c = else-zero (4 when badBlockLength lent) _ (b .1) in
-        let d = else-zero (5 when badTableLength lent t) _ (c .1) in
-        let e = else-zero (6 when badBox lent) _ (d .1) in
-        let f = else-zero (7 when badRule lent t) (8 when badRow lent t) (e .1) in
+        let a = else-zero (2 when badHead block) _ accepted in
+        let b = else-zero (3 when badCounts block) _ (a .1) in
+        let c = else-zero (4 when badBlockLength block) _ (b .1) in
+        let d = else-zero (5 when badTableLength block t) _ (c .1) in
+        let e = else-zero (6 when badBox block) _ (d .1) in
+        let f = else-zero (7 when badRule block t) (8 when badRow block t) (e .1) in
         record {
-          head = when-zero 1 (badHead lent) (a .0);
-          counts = when-zero 2 (badCounts lent) (b .0);
-          block-length = when-zero 3 (badBlockLength lent) (c .0);
-          table-length = when-zero 4 (badTableLength lent t) (d .0);
-          box = when-zero 5 (badBox lent) (e .0);
-          rule = when-zero 6 (badRule lent t) (f .0);
-          row = when-zero 7 (badRow lent t) (f .1);
+          head = when-zero 1 (badHead block) (a .0);
+          counts = when-zero 2 (badCounts block) (b .0);
+          block-length = when-zero 3 (badBlockLength block) (c .0);
+          table-length = when-zero 4 (badTableLength block t) (d .0);
+          box = when-zero 5 (badBox block) (e .0);
+          rule = when-zero 6 (badRule block t) (f .0);
+          row = when-zero 7 (badRow block t) (f .1);
         }
 
-    pub accepted-by : Passed → refusal lent t ≡ 0
+    pub accepted-by : Passed → refusal block t ≡ 0
     unfolding refusal
     accepted-by p =
         zero-else (zero-when 2 (p .head)) (zero-else (zero-when 3 (p .counts)) (zero-else (zero-when 4 (p .block-length))
         (zero-else (zero-when 5 (p .table-length)) (zero-else (zero-when 6 (p .box)) (zero-else (zero-when 7 (p .rule)) (zero-when 8 (p .row)))))))
 
     -- ---- what the checks leave
-    pub head-by : badHead lent ≡ false → badCounts lent ≡ false → badBlockLength lent ≡ false → Head lent
+    pub head-by : badHead block ≡ false → badCounts block ≡ false → badBlockLength block ≡ false → Head block
     unfolding badHead badCounts badBlockLength dims axes boxes rules
     head-by h c l =
-        let a = not-false (or-false {a = ltb (length (lent .block)) 3} h .1) in
+        let a = not-false (or-false {a = ltb (length block) 3} h .1) in
         let b = and-true (not-false c) in
         record {
-          some-dims = nat-from (word (lent .block) 0) a .0;
-          few-dims = nat-from (word (lent .block) 0) a .1;
-          some-axes = nat-from (word (lent .block) 0) a .0;
-          few-axes = nat-from (word (lent .block) 0) a .1;
-          some-boxes = nat-from (word (lent .block) 1) (b .0) .0;
-          few-boxes = nat-from (word (lent .block) 1) (b .0) .1;
-          few-rules = nat-from (word (lent .block) 2) (b .1) .1;
+          some-dims = nat-from (word block 0) a .0;
+          few-dims = nat-from (word block 0) a .1;
+          some-axes = nat-from (word block 0) a .0;
+          few-axes = nat-from (word block 0) a .1;
+          some-boxes = nat-from (word block 1) (b .0) .0;
+          few-boxes = nat-from (word block 1) (b .0) .1;
+          few-rules = nat-from (word block 2) (b .1) .1;
           long = eqb-true _ _ (not-false l);
           counts = λ at k. head-count at k a (b .0) (b .1);
         }
       where
-        head-count : (at : ℕ) → at < 3 → within (pos 1) (pos 4) (word (lent .block) 0) ≡ true → within (pos 1) (pos 128) (word (lent .block) 1) ≡ true
-            → within (pos 0) (pos 32) (word (lent .block) 2) ≡ true → Count (word (lent .block) at)
+        head-count : (at : ℕ) → at < 3 → within (pos 1) (pos 4) (word block 0) ≡ true → within (pos 1) (pos 128) (word block 1) ≡ true
+            → within (pos 0) (pos 32) (word block 2) ≡ true → Count (word block at)
         head-count zero k a b c = counted 1 4 (omega arith) a
         head-count (suc zero) k a b c = counted 1 128 (omega arith) b
         head-count (suc (suc zero)) k a b c = counted 0 32 (omega arith) c
         head-count (suc (suc (suc n))) k a b c = absurd (omega arith)
 
-    pub rows-by : badTableLength lent t ≡ false → Rows lent t
+    pub rows-by : badTableLength block t ≡ false → Rows block t
     unfolding badTableLength
     rows-by e =
         let a = and-true (not-false e) in
         let b = and-true (a .0) in
         record { long = eqb-true _ _ (b .0); some-rows = leb-true _ _ (b .1); few-rows = leb-true _ _ (a .1) }
 
-    length-by : Rows lent t → badTableLength lent t ≡ false
+    length-by : Rows block t → badTableLength block t ≡ false
     unfolding badTableLength
     length-by w = ap not (true-and (true-and (eq-eqb _ _ (w .long)) (le-leb 1 _ (w .some-rows))) (le-leb _ 32 (w .few-rows)))
 
-    pub table-by : Rows lent t → badRow lent t ≡ false → Table lent t
+    pub table-by : Rows block t → badRow block t ≡ false → Table block t
     unfolding badRow
     table-by w e =
         record {
@@ -236,13 +236,13 @@ module _ (lent : Lent) where
           ordered = λ i d h k l. row i h k .ordered d l;
         }
       where
-        row : (i : ℕ) → 1 ≤ i → i ≤ rows lent t → ValidRow t i
-        row i h k = row-parts t i (upto-at (validRow lent t) (not-false e) i h k)
+        row : (i : ℕ) → 1 ≤ i → i ≤ rows block t → ValidRow t i
+        row i h k = row-parts t i (upto-at (validRow block t) (not-false e) i h k)
 
-    rows-valid : Table lent t → badRow lent t ≡ false
+    rows-valid : Table block t → badRow block t ≡ false
     unfolding badRow
     rows-valid w =
-        ap not (at-upto (validRow lent t) (λ i h k. row-by t i (record {
+        ap not (at-upto (validRow block t) (λ i h k. row-by t i (record {
           set-from = w .sets-from i h k;
           set-upto = w .sets-upto i h k;
           boxed = λ s e. w .boxed i s h k e;
@@ -251,59 +251,61 @@ module _ (lent : Lent) where
           ordered = λ d l. w .ordered i d h k l;
         })))
 
-    module _ (accepted : refusal lent t ≡ 0) where
-      box-parts : (b : ℕ) → b < boxes lent
-          → (within (pos 1) (pos 32) (shapeOf lent b) ≡ true) × (allBelow (dims lent) (box-test b) ≡ true)
+    module _ (accepted : refusal block t ≡ 0) where
+      box-parts : (b : ℕ) → b < boxes block
+          → (within (pos 1) (pos 32) (shapeOf block b) ≡ true) × (allBelow (dims block) (box-test b) ≡ true)
       unfolding badBox validBox
-      box-parts b h = and-true (all-at (validBox lent) (not-false (passed accepted .box)) b h)
+      box-parts b h = and-true (all-at (validBox block) (not-false (passed accepted .box)) b h)
 
-      box-words : (b d : ℕ) → b < boxes lent → d < dims lent
-          → (within (minus 10000) (pos 10000) (offset lent b d) ≡ true) × (within (pos 1) (pos 10000) (size lent b d) ≡ true)
+      box-words : (b d : ℕ) → b < boxes block → d < dims block
+          → (within (minus 10000) (pos 10000) (offset block b d) ≡ true) × (within (pos 1) (pos 10000) (size block b d) ≡ true)
       box-words b d h l = and-true (all-at (box-test b) (box-parts b h .1) d l)
 
-      rule-valid : (r : ℕ) → r < rules lent → ValidRule (rows lent t) r
+      rule-valid : (r : ℕ) → r < rules block → ValidRule (rows block t) r
       unfolding badRule
-      rule-valid r h = rule-parts (rows lent t) r (all-at (validRule lent (rows lent t)) (not-false (passed accepted .rule)) r h)
+      rule-valid r h = rule-parts (rows block t) r (all-at (validRule block (rows block t)) (not-false (passed accepted .rule)) r h)
 
-      pub accepted-head : Head lent
+      pub accepted-head : Head block
       accepted-head = head-by (passed accepted .head) (passed accepted .counts) (passed accepted .block-length)
 
-      pub accepted-rows : Rows lent t
+      pub accepted-rows : Rows block t
       accepted-rows = rows-by (passed accepted .table-length)
 
-      pub accepted-block : Block lent
+      pub accepted-block : Block block
       accepted-block =
           record {
             head = accepted-head;
             shapes = λ b h. counted 1 32 (omega arith) (box-parts b h .0);
+            shapes-from = λ b h. nat-from (shapeOf block b) (box-parts b h .0) .0;
+            shapes-upto = λ b h. nat-from (shapeOf block b) (box-parts b h .0) .1;
             offsets = λ b d h l. within-test (box-words b d h l .0);
             sizes = λ b d h l. from-one 10000 (box-words b d h l .1);
             sizes-from = λ b d h l. within-true {b = pos 10000} (box-words b d h l .1) .0;
             kinds = λ r h. kind-count r (rule-valid r h .kinds);
-            dim-sets = λ r h. counted 1 _ (power (dims lent) 4 (accepted-head .few-dims) (omega arith)) (rule-valid r h .dim-set);
-            row-sets = λ r h. counted 1 _ (power (rows lent t) 32 (accepted-rows .few-rows) (omega arith)) (rule-valid r h .row-set);
+            dim-sets = λ r h. counted 1 _ (power (dims block) 4 (accepted-head .few-dims) (omega arith)) (rule-valid r h .dim-set);
+            row-sets = λ r h. counted 1 _ (power (rows block t) 32 (accepted-rows .few-rows) (omega arith)) (rule-valid r h .row-set);
             room-lows = λ r d h l. end-bounds r d (rule-valid r h .ends d l) .0;
             room-highs = λ r d h l. end-bounds r d (rule-valid r h .ends d l) .1;
           }
 
-      pub accepted-table : Table lent t
+      pub accepted-table : Table block t
       accepted-table = table-by accepted-rows (passed accepted .row)
 
   -- another table of as many words
-  pub rows-same : (u t : List ℤ) → length u ≡ length t → rows lent u ≡ rows lent t
+  pub rows-same : (u t : List ℤ) → length u ≡ length t → rows block u ≡ rows block t
   unfolding rows
-  rows-same u t e = ap (λ (n : ℕ). n / rowLen lent) e
+  rows-same u t e = ap (λ (n : ℕ). n / rowLen block) e
 
-  pub rows-again : (u t : List ℤ) → length u ≡ length t → Rows lent t → Rows lent u
+  pub rows-again : (u t : List ℤ) → length u ≡ length t → Rows block t → Rows block u
   rows-again u t e w =
       let n = rows-same u t e in
       record {
-        long = e ∙ w .long ∙ ap (λ (m : ℕ). m * rowLen lent) (sym n);
+        long = e ∙ w .long ∙ ap (λ (m : ℕ). m * rowLen block) (sym n);
         some-rows = subst (λ (m : ℕ). 1 ≤ m) (sym n) (w .some-rows);
         few-rows = subst (λ (m : ℕ). m ≤ 32) (sym n) (w .few-rows);
       }
 
-  pub accepted-again : (t u : List ℤ) → refusal lent t ≡ 0 → length u ≡ length t → Table lent u → refusal lent u ≡ 0
+  pub accepted-again : (t u : List ℤ) → refusal block t ≡ 0 → length u ≡ length t → Table block u → refusal block u ≡ 0
   unfolding badRule
   accepted-again t u accepted e w =
       let p = passed t accepted in
@@ -313,6 +315,6 @@ module _ (lent : Lent) where
         block-length = p .block-length;
         table-length = length-by u (w .whole);
         box = p .box;
-        rule = ap (λ (n : ℕ). not (allBelow (rules lent) (validRule lent n))) (rows-same u t e) ∙ p .rule;
+        rule = ap (λ (n : ℕ). not (allBelow (rules block) (validRule block n))) (rows-same u t e) ∙ p .rule;
         row = rows-valid u w;
       })

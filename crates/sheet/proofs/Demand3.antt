@@ -16,7 +16,7 @@ use Rattle.integers.proofs.Lists.{same-eq, same-refl}
 use Rattle.fixpoint.specs.Finding.{Survives}
 use Rattle.fixpoint.specs.Laws.{Laws, Still}
 use Rattle.fixpoint.proofs.Settle.{settle-finds, settles}
-use Rattle.sheet.specs.Layout.{Lent, axes, rows, hasShape}
+use Rattle.sheet.specs.Layout.{axes, rows, hasShape}
 use Rattle.sheet.specs.Narrow.{Stands, Narrowed, Narrows, noPlace, narrowed, narrowOf}
 use Rattle.sheet.specs.Settle.{Settled, Inside, Settles, extent, settleOf}
 use Rattle.sheet.specs.Refusal.{refusal}
@@ -26,111 +26,111 @@ use Rattle.sheet.proofs.Narrows.{narrow-finds}
 use Rattle.sheet.proofs.Inside.{inside-refl, inside-trans, inside-antisym, inside-falls}
 use Rattle.sheet.proofs.Steps.{settled-table, stands-outside, narrowed-inside, narrowed-table, narrowed-keeps}
 
-module _ (lent : Lent) where
+module _ (block : List ℤ) where
   -- each row of a table that keeps `Table` has a shape
-  pub living : {t : List ℤ} → Table lent t → (i : ℕ) → 1 ≤ i → i ≤ rows lent t → (s : ℕ) × (hasShape lent t i s ≡ true)
+  pub living : {t : List ℤ} → Table block t → (i : ℕ) → 1 ≤ i → i ≤ rows block t → (s : ℕ) × (hasShape block t i s ≡ true)
   unfolding hasShape
   living table i h k = living-set (table .sets-from i h k)
 
   -- a narrowing that leaves a table, taken apart
   record Left (t : List ℤ) (i : ℕ) (v : List ℤ) : Type 0 where
     point : List ℤ
-    stands : Stands lent t i point
-    left : Narrowed lent t i v
+    stands : Stands block t i point
+    left : Narrowed block t i v
 
-  left-by : {t : List ℤ} {i : ℕ} {v : List ℤ} → Narrows lent t i (some v) → Left t i v
+  left-by : {t : List ℤ} {i : ℕ} {v : List ℤ} → Narrows block t i (some v) → Left t i v
   left-by (narrowed p st n) = record { point = p; stands = st; left = n }
 
   -- ---- the tables on the way from t₀
   pub record Good (t₀ t : List ℤ) : Type 0 where
-    pub table : Table lent t
+    pub table : Table block t
     pub as-long : length t ≡ length t₀
 
   -- rows count from 0 in crates/fixpoint
   abbrev pub narrow : ℕ → List ℤ → Option (List ℤ)
-  narrow m t = narrowOf lent t (suc m)
+  narrow m t = narrowOf block t (suc m)
 
-  module _ (dims : 0 < axes lent) (t₀ : List ℤ) where
-    row-in : {t : List ℤ} (m : ℕ) → Good t₀ t → m < rows lent t₀ → suc m ≤ rows lent t
-    row-in {t} m g h = subst (λ (n : ℕ). m < n) (sym (rows-same lent t t₀ (g .as-long))) h
+  module _ (dims : 0 < axes block) (t₀ : List ℤ) where
+    row-in : {t : List ℤ} (m : ℕ) → Good t₀ t → m < rows block t₀ → suc m ≤ rows block t
+    row-in {t} m g h = subst (λ (n : ℕ). m < n) (sym (rows-same block t t₀ (g .as-long))) h
 
-    finds : (t : List ℤ) (m : ℕ) → Good t₀ t → m < rows lent t₀ → Narrows lent t (suc m) (narrow m t)
-    finds t m g h = narrow-finds lent t (g .table) (suc m) (omega arith) (row-in m g h)
+    finds : (t : List ℤ) (m : ℕ) → Good t₀ t → m < rows block t₀ → Narrows block t (suc m) (narrow m t)
+    finds t m g h = narrow-finds block t (g .table) (suc m) (omega arith) (row-in m g h)
 
-    left : (t v : List ℤ) (m : ℕ) → Good t₀ t → m < rows lent t₀ → narrow m t ≡ some v → Left t (suc m) v
-    left t v m g h e = left-by (subst (λ (o : Option (List ℤ)). Narrows lent t (suc m) o) e (finds t m g h))
+    left : (t v : List ℤ) (m : ℕ) → Good t₀ t → m < rows block t₀ → narrow m t ≡ some v → Left t (suc m) v
+    left t v m g h e = left-by (subst (λ (o : Option (List ℤ)). Narrows block t (suc m) o) e (finds t m g h))
 
-    survives : (t u : List ℤ) (m : ℕ) → Good t₀ t → m < rows lent t₀ → Settled lent u → Inside lent u t
-        → (o : Option (List ℤ)) → Narrows lent t (suc m) o → Survives (Inside lent) u o
+    survives : (t u : List ℤ) (m : ℕ) → Good t₀ t → m < rows block t₀ → Settled block u → Inside block u t
+        → (o : Option (List ℤ)) → Narrows block t (suc m) o → Survives (Inside block) u o
     survives t u m g h s x none (noPlace f) =
         let k = row-in m g h in
-        let r = s .lows (suc m) 0 (omega arith) (subst (λ (n : ℕ). suc m ≤ n) (sym (rows-same lent u t (x .as-long))) k) dims in
-        f (r .point) (stands-outside lent dims u t s x (suc m) (r .point) (omega arith) k (r .by))
+        let r = s .lows (suc m) 0 (omega arith) (subst (λ (n : ℕ). suc m ≤ n) (sym (rows-same block u t (x .as-long))) k) dims in
+        f (r .point) (stands-outside block dims u t s x (suc m) (r .point) (omega arith) k (r .by))
     survives t u m g h s x (some v) (narrowed p st n) =
-        narrowed-keeps lent t v (suc m) (omega arith) (row-in m g h) n dims u s x
+        narrowed-keeps block t v (suc m) (omega arith) (row-in m g h) n dims u s x
 
-    inside-of : (t v : List ℤ) (m : ℕ) → Good t₀ t → m < rows lent t₀ → narrow m t ≡ some v → Inside lent v t
-    inside-of t v m g h e = narrowed-inside lent t v (suc m) (omega arith) (row-in m g h) (left t v m g h e .left)
+    inside-of : (t v : List ℤ) (m : ℕ) → Good t₀ t → m < rows block t₀ → narrow m t ≡ some v → Inside block v t
+    inside-of t v m g h e = narrowed-inside block t v (suc m) (omega arith) (row-in m g h) (left t v m g h e .left)
 
-    good-of : (t v : List ℤ) (m : ℕ) → Good t₀ t → m < rows lent t₀ → narrow m t ≡ some v → Good t₀ v
+    good-of : (t v : List ℤ) (m : ℕ) → Good t₀ t → m < rows block t₀ → narrow m t ≡ some v → Good t₀ v
     good-of t v m g h e =
         let w = left t v m g h e in
         record {
-          table = narrowed-table lent t v (suc m) (omega arith) (row-in m g h) (w .left) (w .point) (w .stands) (g .table) (living (g .table));
+          table = narrowed-table block t v (suc m) (omega arith) (row-in m g h) (w .left) (w .point) (w .stands) (g .table) (living (g .table));
           as-long = w .left .as-long ∙ g .as-long;
         }
 
-    settled-still : (t : List ℤ) → Good t₀ t → Still narrow (rows lent t₀) t → Settled lent t
+    settled-still : (t : List ℤ) → Good t₀ t → Still narrow (rows block t₀) t → Settled block t
     settled-still t g still =
-        let at : (i : ℕ) → 1 ≤ i → i ≤ rows lent t → Narrowed lent t i t = λ i h k. each-row i h k in
+        let at : (i : ℕ) → 1 ≤ i → i ≤ rows block t → Narrowed block t i t = λ i h k. each-row i h k in
         record {
           lows = λ i d h k l. at i h k .lows d l;
           highs = λ i d h k l. at i h k .highs d l;
           shapes = λ i s h k e. at i h k .shapes s .0 e .1;
         }
       where
-        each-row : (i : ℕ) → 1 ≤ i → i ≤ rows lent t → Narrowed lent t i t
+        each-row : (i : ℕ) → 1 ≤ i → i ≤ rows block t → Narrowed block t i t
         each-row (suc m) h k =
-            let l : m < rows lent t₀ = subst (λ (n : ℕ). m < n) (rows-same lent t t₀ (g .as-long)) k in
+            let l : m < rows block t₀ = subst (λ (n : ℕ). m < n) (rows-same block t t₀ (g .as-long)) k in
             left t t m g l (still m l) .left
         each-row zero h k = absurd (omega arith)
 
-    pub laws : Laws (Inside lent) (Settled lent) (Good t₀) narrow sameWords (rows lent t₀) (extent lent)
+    pub laws : Laws (Inside block) (Settled block) (Good t₀) narrow sameWords (rows block t₀) (extent block)
     laws =
         record {
-          rfl = inside-refl lent;
-          trans = λ x y. inside-trans lent x y;
+          rfl = inside-refl block;
+          trans = λ x y. inside-trans block x y;
           antisym = λ {s} {t} {u} g x y st su a b.
-              inside-antisym lent t u (settled-table lent dims t s st x (g .table)) (settled-table lent dims u s su y (g .table)) a b;
+              inside-antisym block t u (settled-table block dims t s st x (g .table)) (settled-table block dims u s su y (g .table)) a b;
           equal = λ t u. (λ e. same-eq e, λ e. subst (λ (y : List ℤ). sameWords t y ≡ true) e (same-refl t));
           keeps = λ {i} {t} {u} h g s x. survives t u i g h s x (narrow i t) (finds t i g h);
           good = λ {i} {t} {v} h g e. good-of t v i g h e;
           shrinks = λ {i} {t} {v} h g e. inside-of t v i g h e;
-          falls = λ {i} {t} {v} h g e. inside-falls lent v t (good-of t v i g h e .table) (g .table) (inside-of t v i g h e);
+          falls = λ {i} {t} {v} h g e. inside-falls block v t (good-of t v i g h e .table) (g .table) (inside-of t v i g h e);
           still = λ {t} g s. settled-still t g s;
         }
 
   -- ---- an accepted sheet
-  module _ (t : List ℤ) (accepted : refusal lent t ≡ 0) where
-    pub some-axes : 0 < axes lent
-    some-axes = accepted-head lent t accepted .some-axes
+  module _ (t : List ℤ) (accepted : refusal block t ≡ 0) where
+    pub some-axes : 0 < axes block
+    some-axes = accepted-head block t accepted .some-axes
 
     pub good-start : Good t t
-    good-start = record { table = accepted-table lent t accepted; as-long = refl }
+    good-start = record { table = accepted-table block t accepted; as-long = refl }
 
-    pub demand-3 : Settles lent t (settleOf lent t)
+    pub demand-3 : Settles block t (settleOf block t)
     unfolding settleOf
     demand-3 = settle-finds (laws some-axes t) t good-start
 
-    pub demand-3-unique : (r : Option (List ℤ)) → Settles lent t r → settleOf lent t ≡ r
+    pub demand-3-unique : (r : Option (List ℤ)) → Settles block t r → settleOf block t ≡ r
     unfolding settleOf
     demand-3-unique r h = settles (laws some-axes t) {r = r} good-start h
 
-    pub narrowed-accepted : (i : ℕ) (v : List ℤ) → 1 ≤ i → i ≤ rows lent t → narrowOf lent t i ≡ some v → refusal lent v ≡ 0
+    pub narrowed-accepted : (i : ℕ) (v : List ℤ) → 1 ≤ i → i ≤ rows block t → narrowOf block t i ≡ some v → refusal block v ≡ 0
     narrowed-accepted i v h k e =
-        let table = accepted-table lent t accepted in
-        let w = left-by (subst (λ (o : Option (List ℤ)). Narrows lent t i o) e (narrow-finds lent t table i h k)) in
-        accepted-again lent t v accepted (w .left .as-long) (narrowed-table lent t v i h k (w .left) (w .point) (w .stands) table (living table))
+        let table = accepted-table block t accepted in
+        let w = left-by (subst (λ (o : Option (List ℤ)). Narrows block t i o) e (narrow-finds block t table i h k)) in
+        accepted-again block t v accepted (w .left .as-long) (narrowed-table block t v i h k (w .left) (w .point) (w .stands) table (living table))
 
-    pub settled-accepted : (u : List ℤ) → Settled lent u → Inside lent u t → refusal lent u ≡ 0
-    settled-accepted u s x = accepted-again lent t u accepted (x .as-long) (settled-table lent some-axes u t s x (accepted-table lent t accepted))
+    pub settled-accepted : (u : List ℤ) → Settled block u → Inside block u t → refusal block u ≡ 0
+    settled-accepted u s x = accepted-again block t u accepted (x .as-long) (settled-table block some-axes u t s x (accepted-table block t accepted))

@@ -14,63 +14,63 @@ use Rattle.integers.proofs.Booleans.{true-and, or-comm, or-left, implies-not}
 use Rattle.integers.proofs.Below.{all-same, any-same, any-true, all-not}
 use Rattle.integers.proofs.Ints.{ints, interval}
 use Rattle.integers.proofs.Lists.{getD-listBelow}
-use Rattle.sheet.specs.Layout.{Lent, dims, axes, offset, size, namesDim, low, high}
+use Rattle.sheet.specs.Layout.{dims, axes, offset, size, namesDim, low, high}
 use Rattle.sheet.specs.Allowed.{forbidFrom, forbidTo, pairForbids}
 use Rattle.sheet.specs.Placement.{pointOf, boxStart, boxEnd, clear, boxesClear}
 use Rattle.sheet.proofs.Forbidden.{axis}
 
-module _ (lent : Lent) (table : List ℤ) where
+module _ (block : List ℤ) (table : List ℤ) where
   -- row j has one number in each range
   abbrev pub Still : ℕ → Type 0
-  Still j = (d : ℕ) → d < axes lent → low lent table j d ≡ high lent table j d
+  Still j = (d : ℕ) → d < axes block → low block table j d ≡ high block table j d
 
-  pub at-point : (i d : ℕ) → d < axes lent → word (pointOf lent table i) d ≡ low lent table i d
+  pub at-point : (i d : ℕ) → d < axes block → word (pointOf block table i) d ≡ low block table i d
   unfolding pointOf
-  at-point i d h = getD-listBelow (low lent table i) (pos 0) h
+  at-point i d h = getD-listBelow (low block table i) (pos 0) h
 
-  not-clear : (r i b j c : ℕ) → Still j → (d : ℕ) → d < dims lent
-      → within (forbidFrom lent table r i b j c d) (forbidTo lent table r i b j c d) (word (pointOf lent table i) d)
-      ≡ not (clear lent table r i b j c d)
+  not-clear : (r i b j c : ℕ) → Still j → (d : ℕ) → d < dims block
+      → within (forbidFrom block table r i b j c d) (forbidTo block table r i b j c d) (word (pointOf block table i) d)
+      ≡ not (clear block table r i b j c d)
   unfolding forbidFrom forbidTo clear boxStart boxEnd
   not-clear r i b j c still d h =
-      ap₂ (λ (q p : ℤ). within (q +ℤ offset lent c d -ℤ offset lent b d -ℤ size lent b d +ℤ pos 1)
-      (low lent table j d +ℤ offset lent c d +ℤ size lent c d -ℤ offset lent b d -ℤ pos 1) p)
-      (sym (still d (axis lent h))) (at-point i d (axis lent h))
-      ∙ interval (low lent table j d) (offset lent c d) (size lent c d) (offset lent b d) (size lent b d) (low lent table i d)
+      ap₂ (λ (q p : ℤ). within (q +ℤ offset block c d -ℤ offset block b d -ℤ size block b d +ℤ pos 1)
+      (low block table j d +ℤ offset block c d +ℤ size block c d -ℤ offset block b d -ℤ pos 1) p)
+      (sym (still d (axis block h))) (at-point i d (axis block h))
+      ∙ interval (low block table j d) (offset block c d) (size block c d) (offset block b d) (size block b d) (low block table i d)
 
   pub pair-not-clear : (r i b j c : ℕ) → Still j
-      → pairForbids lent table r (pointOf lent table i) i b j c ≡ not (boxesClear lent table r i b j c)
+      → pairForbids block table r (pointOf block table i) i b j c ≡ not (boxesClear block table r i b j c)
   unfolding pairForbids boxesClear
   pair-not-clear r i b j c still =
-      all-same (λ d h. ap (λ (x : Bool). namesDim lent r d ⇒ x) (not-clear r i b j c still d h)
-      ∙ implies-not (namesDim lent r d) (clear lent table r i b j c d))
-      ∙ all-not (dims lent) (λ d. namesDim lent r d && clear lent table r i b j c d)
+      all-same (λ d h. ap (λ (x : Bool). namesDim block r d ⇒ x) (not-clear r i b j c still d h)
+      ∙ implies-not (namesDim block r d) (clear block table r i b j c d))
+      ∙ all-not (dims block) (λ d. namesDim block r d && clear block table r i b j c d)
 
-  clear-comm : (r i b j c d : ℕ) → clear lent table r i b j c d ≡ clear lent table r j c i b d
+  clear-comm : (r i b j c d : ℕ) → clear block table r i b j c d ≡ clear block table r j c i b d
   unfolding clear
   clear-comm r i b j c d =
-      or-comm (leZ (boxEnd lent table j c d) (boxStart lent table i b d)) (leZ (boxEnd lent table i b d) (boxStart lent table j c d))
+      or-comm (leZ (boxEnd block table j c d) (boxStart block table i b d)) (leZ (boxEnd block table i b d) (boxStart block table j c d))
 
-  pub boxes-clear-comm : (r i b j c : ℕ) → boxesClear lent table r i b j c ≡ boxesClear lent table r j c i b
+  pub boxes-clear-comm : (r i b j c : ℕ) → boxesClear block table r i b j c ≡ boxesClear block table r j c i b
   unfolding boxesClear
-  boxes-clear-comm r i b j c = any-same (λ d h. ap (λ (x : Bool). namesDim lent r d && x) (clear-comm r i b j c d))
+  boxes-clear-comm r i b j c = any-same (λ d h. ap (λ (x : Bool). namesDim block r d && x) (clear-comm r i b j c d))
 
   -- EXCHANGE: the pair forbids the one row's origin exactly when it forbids the other's
   pub exchange : (r i b j c : ℕ) → Still i → Still j
-      → pairForbids lent table r (pointOf lent table i) i b j c ≡ pairForbids lent table r (pointOf lent table j) j c i b
+      → pairForbids block table r (pointOf block table i) i b j c ≡ pairForbids block table r (pointOf block table j) j c i b
   exchange r i b j c si sj = pair-not-clear r i b j c sj ∙ ap not (boxes-clear-comm r i b j c) ∙ sym (pair-not-clear r j c i b si)
 
-  touching-clear : (r i b j c d : ℕ) → boxEnd lent table j c d ≡ boxStart lent table i b d → clear lent table r i b j c d ≡ true
+  touching-clear : (r i b j c d : ℕ) → boxEnd block table j c d ≡ boxStart block table i b d → clear block table r i b j c d ≡ true
   unfolding clear
-  touching-clear r i b j c d e = or-left {a = leZ (boxEnd lent table j c d) (boxStart lent table i b d)} _ (omega ints)
+  touching-clear r i b j c d e = or-left {a = leZ (boxEnd block table j c d) (boxStart block table i b d)} _ (omega ints)
 
   -- TOUCHING: where box b of row i starts at the end of box c of row j in a named dimension, neither row's origin is forbidden
-  pub touching : (r i b j c d : ℕ) → Still i → Still j → d < dims lent → namesDim lent r d ≡ true
-      → boxEnd lent table j c d ≡ boxStart lent table i b d
-      → (pairForbids lent table r (pointOf lent table i) i b j c ≡ false) × (pairForbids lent table r (pointOf lent table j) j c i b ≡ false)
+  pub touching : (r i b j c d : ℕ) → Still i → Still j → d < dims block → namesDim block r d ≡ true
+      → boxEnd block table j c d ≡ boxStart block table i b d
+      → (pairForbids block table r (pointOf block table i) i b j c ≡ false) × (pairForbids block table r (pointOf block table j) j c i b ≡ false)
   unfolding boxesClear
   touching r i b j c d si sj h n e = (free, sym (exchange r i b j c si sj) ∙ free)
     where
-      free : pairForbids lent table r (pointOf lent table i) i b j c ≡ false
+      free : pairForbids block table r (pointOf block table i) i b j c ≡ false
       free = pair-not-clear r i b j c sj
-          ∙ ap not (any-true (λ d. namesDim lent r d && clear lent table r i b j c d) d h (true-and n (touching-clear r i b j c d e)))
+          ∙ ap not (any-true (λ d. namesDim block r d && clear block table r i b j c d) d h (true-and n (touching-clear r i b j c d e)))

@@ -15,7 +15,7 @@ use Rattle.integers.proofs.Booleans.{clash}
 use Rattle.integers.proofs.Ints.{≤ℤ-antisym}
 use Rattle.integers.proofs.Below.{least-view, greatest-view}
 use Rattle.integers.proofs.Ranges.{count, count-below, counts}
-use Rattle.sheet.specs.Layout.{Lent, axes, low, high}
+use Rattle.sheet.specs.Layout.{axes, low, high}
 use Rattle.sheet.specs.Allowed.{inRanges, allowed}
 use Rattle.sheet.specs.Bounds.{Extreme, nowhere, there, Least, Greatest, above, reaches, leastBy, greatestBy, leastOf, greatestOf}
 use Rattle.sheet.proofs.Forbidden.{allowed-parts, in-range}
@@ -41,57 +41,57 @@ greatest-picked n g =
     (λ w. subst⁻¹ (Picked (λ c b. b ≤ c) n g) (w .0) (no-number (w .1)))
     (greatest-view n g)
 
-module _ (lent : Lent) (table : List ℤ) (i : ℕ) (f : List ℤ → Bool) (agree : Respects lent table i f)
-    (ranged : (p : List ℤ) → f p ≡ true → inRanges lent table i p ≡ true) (d : ℕ) (hd : d < axes lent) where
+module _ (block : List ℤ) (table : List ℤ) (i : ℕ) (f : List ℤ → Bool) (agree : Respects block table i f)
+    (ranged : (p : List ℤ) → f p ≡ true → inRanges block table i p ≡ true) (d : ℕ) (hd : d < axes block) where
   -- the numbers of the range, counted from its low end
   abbrev from : ℤ
-  from = low lent table i d
+  from = low block table i d
 
   abbrev reach : ℕ → Bool
-  reach c = reaches lent table i f d (from +ℤ pos c)
+  reach c = reaches block table i f d (from +ℤ pos c)
 
   abbrev at : List ℤ → ℕ
   at p = nat (word p d -ℤ from)
 
   counted : (p : List ℤ) → f p ≡ true → from +ℤ pos (at p) ≡ word p d
-  counted p e = count (in-range lent table i d p (ranged p e) hd .0)
+  counted p e = count (in-range block table i d p (ranged p e) hd .0)
 
-  below : (p : List ℤ) → f p ≡ true → at p < width from (high lent table i d)
-  below p e = let r = in-range lent table i d p (ranged p e) hd in count-below (r .0) (r .1)
+  below : (p : List ℤ) → f p ≡ true → at p < width from (high block table i d)
+  below p e = let r = in-range block table i d p (ranged p e) hd in count-below (r .0) (r .1)
 
   hit : (p : List ℤ) → f p ≡ true → reach (at p) ≡ true
-  hit p e = reaches-by lent table i f agree d _ hd p (ranged p e) e (sym (counted p e))
+  hit p e = reaches-by block table i f agree d _ hd p (ranged p e) e (sym (counted p e))
 
   picked-extreme : {after : ℕ → ℕ → Type 0} {before : ℤ → ℤ → Type 0}
       → ((m n : ℕ) → after m n → before (from +ℤ pos m) (from +ℤ pos n))
-      → (o : Option ℕ) → Picked after (width from (high lent table i d)) reach o → Extreme before f d (above from o)
+      → (o : Option ℕ) → Picked after (width from (high block table i d)) reach o → Extreme before f d (above from o)
   unfolding above
   picked-extreme mono none (no-number h) = nowhere (λ p e. clash (hit p e) (h (at p) (below p e)))
   picked-extreme {before = before} mono (some c) (number e h) =
-      let q = reached-at lent table i f d _ e in
+      let q = reached-at block table i f d _ e in
       there (q .0) (q .1) (q .2) (λ p x.
       subst (λ (z : ℤ). before (from +ℤ pos c) z) (counted p x) (mono c (at p) (h (at p) (below p x) (hit p x))))
 
-  pub least-by : Least f d (leastBy lent table i f d)
+  pub least-by : Least f d (leastBy block table i f d)
   unfolding leastBy
   least-by = picked-extreme {after = λ c b. c ≤ b} (λ m n h. counts from h) _ (least-picked _ reach)
 
-  pub greatest-by : Greatest f d (greatestBy lent table i f d)
+  pub greatest-by : Greatest f d (greatestBy block table i f d)
   unfolding greatestBy
   greatest-by = picked-extreme {after = λ c b. b ≤ c} (λ m n h. counts from h) _ (greatest-picked _ reach)
 
 -- ---- the points at which row i is allowed with shape s
-module _ (lent : Lent) (table : List ℤ) (i s d : ℕ) (hd : d < axes lent) where
-  agree : Respects lent table i (allowed lent table i s)
-  agree p q h = allowed-agree lent table p q h i s
+module _ (block : List ℤ) (table : List ℤ) (i s d : ℕ) (hd : d < axes block) where
+  agree : Respects block table i (allowed block table i s)
+  agree p q h = allowed-agree block table p q h i s
 
-  pub least-of : Least (allowed lent table i s) d (leastOf lent table i s d)
+  pub least-of : Least (allowed block table i s) d (leastOf block table i s d)
   unfolding leastOf
-  least-of = least-by lent table i (allowed lent table i s) agree (λ p e. allowed-parts lent table i s p e .0) d hd
+  least-of = least-by block table i (allowed block table i s) agree (λ p e. allowed-parts block table i s p e .0) d hd
 
-  pub greatest-of : Greatest (allowed lent table i s) d (greatestOf lent table i s d)
+  pub greatest-of : Greatest (allowed block table i s) d (greatestOf block table i s d)
   unfolding greatestOf
-  greatest-of = greatest-by lent table i (allowed lent table i s) agree (λ p e. allowed-parts lent table i s p e .0) d hd
+  greatest-of = greatest-by block table i (allowed block table i s) agree (λ p e. allowed-parts block table i s p e .0) d hd
 
 -- ---- one finding: two extremes of one test are equal, so whatever shows `Least` finds `leastOf`
 extreme-unique : {before : ℤ → ℤ → Type 0} {f : List ℤ → Bool} {d : ℕ} → ((a b : ℤ) → before a b → before b a → a ≡ b)

@@ -12,49 +12,49 @@ use Rattle.integers.specs.Words.{word}
 use Rattle.integers.proofs.Booleans.{and-true, true-and, implies-true, true-implies, not-true, fails}
 use Rattle.integers.proofs.Below.{all-at, at-all, any-at, any-true, some-upto, upto-some}
 use Rattle.integers.proofs.Ints.{within-true, true-within}
-use Rattle.sheet.specs.Layout.{Lent, dims, axes, boxes, rules, isOf, isNonOverlap, namesDim, namesRow, rows, low, high, hasOnly}
+use Rattle.sheet.specs.Layout.{dims, axes, boxes, rules, isOf, isNonOverlap, namesDim, namesRow, rows, low, high, hasOnly}
 use Rattle.sheet.specs.Allowed.{roomsHold, inRanges, forbidFrom, forbidTo, pairForbids, shapesForbid, setForbids}
 use Rattle.sheet.specs.Allowed.{rowForbids, forbidden, allowed}
 
 -- every dimension of a box is an axis
-pub axis : (lent : Lent) {d : ℕ} → d < dims lent → d < axes lent
+pub axis : (block : List ℤ) {d : ℕ} → d < dims block → d < axes block
 unfolding axes
-axis lent h = h
+axis block h = h
 
-module _ (lent : Lent) (table : List ℤ) where
+module _ (block : List ℤ) (table : List ℤ) where
   -- ---- the three parts of allowed
-  pub allowed-parts : (i s : ℕ) (p : List ℤ) → allowed lent table i s p ≡ true
-      → (inRanges lent table i p ≡ true) × (roomsHold lent i s p ≡ true) × (forbidden lent table i s p ≡ false)
+  pub allowed-parts : (i s : ℕ) (p : List ℤ) → allowed block table i s p ≡ true
+      → (inRanges block table i p ≡ true) × (roomsHold block i s p ≡ true) × (forbidden block table i s p ≡ false)
   unfolding allowed
   allowed-parts i s p e = let u = and-true e in let v = and-true (u .0) in (v .0, v .1, not-true (u .1))
 
-  pub allowed-by : (i s : ℕ) (p : List ℤ) → inRanges lent table i p ≡ true → roomsHold lent i s p ≡ true
-      → (forbidden lent table i s p ≡ true → ⊥) → allowed lent table i s p ≡ true
+  pub allowed-by : (i s : ℕ) (p : List ℤ) → inRanges block table i p ≡ true → roomsHold block i s p ≡ true
+      → (forbidden block table i s p ≡ true → ⊥) → allowed block table i s p ≡ true
   unfolding allowed
   allowed-by i s p r h f = true-and (true-and r h) (ap not (fails f))
 
   -- ---- the ranges
-  pub in-range : (i d : ℕ) (p : List ℤ) → inRanges lent table i p ≡ true → d < axes lent
-      → (low lent table i d ≤ℤ word p d) × (word p d ≤ℤ high lent table i d)
+  pub in-range : (i d : ℕ) (p : List ℤ) → inRanges block table i p ≡ true → d < axes block
+      → (low block table i d ≤ℤ word p d) × (word p d ≤ℤ high block table i d)
   unfolding inRanges
   in-range i d p e h = within-true (all-at _ e d h)
 
   pub ranges-by : (i : ℕ) (p : List ℤ)
-      → ((d : ℕ) → d < axes lent → (low lent table i d ≤ℤ word p d) × (word p d ≤ℤ high lent table i d))
-      → inRanges lent table i p ≡ true
+      → ((d : ℕ) → d < axes block → (low block table i d ≤ℤ word p d) × (word p d ≤ℤ high block table i d))
+      → inRanges block table i p ≡ true
   unfolding inRanges
   ranges-by i p h = at-all (λ d l. true-within (h d l .0) (h d l .1))
 
   -- ---- a pair of boxes
-  pub pair-at : (r i b j c d : ℕ) (p : List ℤ) → pairForbids lent table r p i b j c ≡ true → d < dims lent → namesDim lent r d ≡ true
-      → (forbidFrom lent table r i b j c d ≤ℤ word p d) × (word p d ≤ℤ forbidTo lent table r i b j c d)
+  pub pair-at : (r i b j c d : ℕ) (p : List ℤ) → pairForbids block table r p i b j c ≡ true → d < dims block → namesDim block r d ≡ true
+      → (forbidFrom block table r i b j c d ≤ℤ word p d) × (word p d ≤ℤ forbidTo block table r i b j c d)
   unfolding pairForbids
   pair-at r i b j c d p e h n = within-true (implies-true (all-at _ e d h) n)
 
   pub pair-by : (r i b j c : ℕ) (p : List ℤ)
-      → ((d : ℕ) → d < dims lent → namesDim lent r d ≡ true
-      → (forbidFrom lent table r i b j c d ≤ℤ word p d) × (word p d ≤ℤ forbidTo lent table r i b j c d))
-      → pairForbids lent table r p i b j c ≡ true
+      → ((d : ℕ) → d < dims block → namesDim block r d ≡ true
+      → (forbidFrom block table r i b j c d ≤ℤ word p d) × (word p d ≤ℤ forbidTo block table r i b j c d))
+      → pairForbids block table r p i b j c ≡ true
   unfolding pairForbids
   pair-by r i b j c p h = at-all (λ d l. true-implies (λ n. true-within (h d l n .0) (h d l n .1)))
 
@@ -62,19 +62,19 @@ module _ (lent : Lent) (table : List ℤ) where
   pub record Pair (r : ℕ) (p : List ℤ) (i s j s' : ℕ) : Type 0 where
     pub own : ℕ
     pub other : ℕ
-    pub own-below : own < boxes lent
-    pub other-below : other < boxes lent
-    pub own-is : isOf lent own s ≡ true
-    pub other-is : isOf lent other s' ≡ true
-    pub pair : pairForbids lent table r p i own j other ≡ true
+    pub own-below : own < boxes block
+    pub other-below : other < boxes block
+    pub own-is : isOf block own s ≡ true
+    pub other-is : isOf block other s' ≡ true
+    pub pair : pairForbids block table r p i own j other ≡ true
 
-  pub shapes-by : (r i s j s' : ℕ) (p : List ℤ) → Pair r p i s j s' → shapesForbid lent table r p i s j s' ≡ true
+  pub shapes-by : (r i s j s' : ℕ) (p : List ℤ) → Pair r p i s j s' → shapesForbid block table r p i s j s' ≡ true
   unfolding shapesForbid
   shapes-by r i s j s' p f =
       any-true _ (f .own) (f .own-below) (true-and (f .own-is)
       (any-true _ (f .other) (f .other-below) (true-and (f .other-is) (f .pair))))
 
-  pub shapes-parts : (r i s j s' : ℕ) (p : List ℤ) → shapesForbid lent table r p i s j s' ≡ true → Pair r p i s j s'
+  pub shapes-parts : (r i s j s' : ℕ) (p : List ℤ) → shapesForbid block table r p i s j s' ≡ true → Pair r p i s j s'
   unfolding shapesForbid
   shapes-parts r i s j s' p e =
       let b = any-at e in
@@ -88,18 +88,18 @@ module _ (lent : Lent) (table : List ℤ) where
     pub shape : ℕ
     pub from : 1 ≤ shape
     pub upto : shape ≤ 32
-    pub only : hasOnly lent table j shape ≡ true
-    pub forbids : shapesForbid lent table r p i s j shape ≡ true
+    pub only : hasOnly block table j shape ≡ true
+    pub forbids : shapesForbid block table r p i s j shape ≡ true
 
-  pub set-by : (r i s j : ℕ) (p : List ℤ) → OneShape r p i s j → setForbids lent table r p i s j ≡ true
+  pub set-by : (r i s j : ℕ) (p : List ℤ) → OneShape r p i s j → setForbids block table r p i s j ≡ true
   unfolding setForbids
   set-by r i s j p f =
-      upto-some (λ x. hasOnly lent table j x && shapesForbid lent table r p i s j x) (f .shape) (f .from) (f .upto) (true-and (f .only) (f .forbids))
+      upto-some (λ x. hasOnly block table j x && shapesForbid block table r p i s j x) (f .shape) (f .from) (f .upto) (true-and (f .only) (f .forbids))
 
-  pub set-parts : (r i s j : ℕ) (p : List ℤ) → setForbids lent table r p i s j ≡ true → OneShape r p i s j
+  pub set-parts : (r i s j : ℕ) (p : List ℤ) → setForbids block table r p i s j ≡ true → OneShape r p i s j
   unfolding setForbids
   set-parts r i s j p e =
-      let w = some-upto (λ x. hasOnly lent table j x && shapesForbid lent table r p i s j x) e in
+      let w = some-upto (λ x. hasOnly block table j x && shapesForbid block table r p i s j x) e in
       let u = and-true (w .3) in
       record { shape = w .0; from = w .1; upto = w .2; only = u .0; forbids = u .1 }
 
@@ -107,29 +107,29 @@ module _ (lent : Lent) (table : List ℤ) where
   pub record Forbids (i s : ℕ) (p : List ℤ) : Type 0 where
     pub rule : ℕ
     pub other : ℕ
-    pub rule-below : rule < rules lent
+    pub rule-below : rule < rules block
     pub from : 1 ≤ other
-    pub upto : other ≤ rows lent table
-    pub kind : isNonOverlap lent rule ≡ true
-    pub names : namesRow lent rule i ≡ true
+    pub upto : other ≤ rows block table
+    pub kind : isNonOverlap block rule ≡ true
+    pub names : namesRow block rule i ≡ true
     pub another : i ≡ other → ⊥
-    pub names-other : namesRow lent rule other ≡ true
-    pub set : setForbids lent table rule p i s other ≡ true
+    pub names-other : namesRow block rule other ≡ true
+    pub set : setForbids block table rule p i s other ≡ true
 
-  pub forbidden-by : (i s : ℕ) (p : List ℤ) → Forbids i s p → forbidden lent table i s p ≡ true
+  pub forbidden-by : (i s : ℕ) (p : List ℤ) → Forbids i s p → forbidden block table i s p ≡ true
   unfolding forbidden rowForbids
   forbidden-by i s p f =
       any-true _ (f .rule) (f .rule-below) (true-and (true-and (f .kind) (f .names))
-      (upto-some (rowForbids lent table (f .rule) p i s) (f .other) (f .from) (f .upto)
+      (upto-some (rowForbids block table (f .rule) p i s) (f .other) (f .from) (f .upto)
       (true-and (true-and (ap not (ne-eqb i (f .other) (f .another))) (f .names-other)) (f .set))))
 
-  pub forbidden-parts : (i s : ℕ) (p : List ℤ) → forbidden lent table i s p ≡ true → Forbids i s p
+  pub forbidden-parts : (i s : ℕ) (p : List ℤ) → forbidden block table i s p ≡ true → Forbids i s p
   unfolding forbidden rowForbids
   forbidden-parts i s p e =
       let r = any-at e in
       let r2 = and-true (r .2) in
       let r1 = and-true (r2 .0) in
-      let j = some-upto (rowForbids lent table (r .0) p i s) (r2 .1) in
+      let j = some-upto (rowForbids block table (r .0) p i s) (r2 .1) in
       let j2 = and-true (j .3) in
       let j1 = and-true (j2 .0) in
       record {

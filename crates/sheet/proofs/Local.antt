@@ -13,7 +13,7 @@ use Rattle.integers.specs.Bits.{holds, holdsOnly}
 use Rattle.integers.specs.Words.{word}
 use Rattle.integers.proofs.Booleans.{clash}
 use Rattle.integers.proofs.Below.{same-or}
-use Rattle.sheet.specs.Layout.{Lent, dims, axes, rules, isNonOverlap, namesRow, rows, shapeSet, low, high, hasShape, hasOnly}
+use Rattle.sheet.specs.Layout.{dims, axes, rules, isNonOverlap, namesRow, rows, shapeSet, low, high, hasShape, hasOnly}
 use Rattle.sheet.specs.Allowed.{inRanges, forbidFrom, forbidTo, setForbids, forbidden, allowed}
 use Rattle.sheet.specs.Narrow.{Stands, Narrowed, Narrows, narrowed, narrowOf}
 use Rattle.sheet.specs.Accepted.{Table}
@@ -24,45 +24,45 @@ use Rattle.sheet.proofs.Rows.{set-other, low-other, high-other}
 use Rattle.sheet.proofs.Narrows.{narrow-finds}
 use Rattle.sheet.proofs.NarrowsOnce.{narrow-is}
 
-module _ (lent : Lent) where
+module _ (block : List ℤ) where
   -- row j has the same words in both tables
   record SameRow (t u : List ℤ) (j : ℕ) : Type 0 where
-    set : shapeSet lent t j ≡ shapeSet lent u j
-    lows : (d : ℕ) → d < axes lent → low lent t j d ≡ low lent u j d
-    highs : (d : ℕ) → d < axes lent → high lent t j d ≡ high lent u j d
+    set : shapeSet block t j ≡ shapeSet block u j
+    lows : (d : ℕ) → d < axes block → low block t j d ≡ low block u j d
+    highs : (d : ℕ) → d < axes block → high block t j d ≡ high block u j d
 
   -- ---- what one other row forbids
   module _ (t u : List ℤ) (j : ℕ) (same : SameRow t u j) where
-    from-same : (r i b c d : ℕ) → d < dims lent → forbidFrom lent t r i b j c d ≡ forbidFrom lent u r i b j c d
+    from-same : (r i b c d : ℕ) → d < dims block → forbidFrom block t r i b j c d ≡ forbidFrom block u r i b j c d
     unfolding forbidFrom
-    from-same r i b c d l = rw (same .highs d (axis lent l))
+    from-same r i b c d l = rw (same .highs d (axis block l))
 
-    to-same : (r i b c d : ℕ) → d < dims lent → forbidTo lent t r i b j c d ≡ forbidTo lent u r i b j c d
+    to-same : (r i b c d : ℕ) → d < dims block → forbidTo block t r i b j c d ≡ forbidTo block u r i b j c d
     unfolding forbidTo
-    to-same r i b c d l = rw (same .lows d (axis lent l))
+    to-same r i b c d l = rw (same .lows d (axis block l))
 
-    only-same : (s : ℕ) → hasOnly lent t j s ≡ hasOnly lent u j s
+    only-same : (s : ℕ) → hasOnly block t j s ≡ hasOnly block u j s
     unfolding hasOnly
     only-same s = ap (λ (z : ℤ). holdsOnly z s) (same .set)
 
-    set-same : (r : ℕ) (p : List ℤ) (i s : ℕ) → setForbids lent t r p i s j ≡ true → setForbids lent u r p i s j ≡ true
+    set-same : (r : ℕ) (p : List ℤ) (i s : ℕ) → setForbids block t r p i s j ≡ true → setForbids block u r p i s j ≡ true
     set-same r p i s e =
-        let o = set-parts lent t r i s j p e in
-        let q = shapes-parts lent t r i s j (o .shape) p (o .forbids) in
-        set-by lent u r i s j p (record {
+        let o = set-parts block t r i s j p e in
+        let q = shapes-parts block t r i s j (o .shape) p (o .forbids) in
+        set-by block u r i s j p (record {
           shape = o .shape;
           from = o .from;
           upto = o .upto;
           only = sym (only-same (o .shape)) ∙ o .only;
-          forbids = shapes-by lent u r i s j (o .shape) p (record {
+          forbids = shapes-by block u r i s j (o .shape) p (record {
             own = q .own;
             other = q .other;
             own-below = q .own-below;
             other-below = q .other-below;
             own-is = q .own-is;
             other-is = q .other-is;
-            pair = pair-by lent u r i (q .own) j (q .other) p (λ d l n.
-                let w = pair-at lent t r i (q .own) j (q .other) d p (q .pair) l n in (
+            pair = pair-by block u r i (q .own) j (q .other) p (λ d l n.
+                let w = pair-at block t r i (q .own) j (q .other) d p (q .pair) l n in (
                   subst (λ (z : ℤ). z ≤ℤ word p d) (from-same r i (q .own) (q .other) d l) (w .0),
                   subst (λ (z : ℤ). word p d ≤ℤ z) (to-same r i (q .own) (q .other) d l) (w .1),
                 ));
@@ -71,31 +71,31 @@ module _ (lent : Lent) where
 
   -- row i forbids row j no point of its ranges
   pub record Clear (t : List ℤ) (i j : ℕ) : Type 0 where
-    pub clear : (r s : ℕ) (p : List ℤ) → r < rules lent → isNonOverlap lent r ≡ true → namesRow lent r i ≡ true → namesRow lent r j ≡ true
-        → hasShape lent t j s ≡ true → inRanges lent t j p ≡ true → setForbids lent t r p j s i ≡ false
+    pub clear : (r s : ℕ) (p : List ℤ) → r < rules block → isNonOverlap block r ≡ true → namesRow block r i ≡ true → namesRow block r j ≡ true
+        → hasShape block t j s ≡ true → inRanges block t j p ≡ true → setForbids block t r p j s i ≡ false
 
   -- ---- row i narrowed
-  module _ (t v : List ℤ) (i : ℕ) (from : 1 ≤ i) (n : Narrowed lent t i v) where
+  module _ (t v : List ℤ) (i : ℕ) (from : 1 ≤ i) (n : Narrowed block t i v) where
     -- another row keeps its words
     kept : (j : ℕ) → 1 ≤ j → (j ≡ i → ⊥) → SameRow v t j
     kept j h ne =
         record {
-          set = set-other lent t v i from (n .others) j h ne;
-          lows = λ d l. low-other lent t v i from (n .others) j d h ne l;
-          highs = λ d l. high-other lent t v i from (n .others) j d h ne l;
+          set = set-other block t v i from (n .others) j h ne;
+          lows = λ d l. low-other block t v i from (n .others) j d h ne l;
+          highs = λ d l. high-other block t v i from (n .others) j d h ne l;
         }
 
     -- row j, whose words in v are those that narrowing it in t finds: it is row i, or row i forbids it nothing
-    module _ (j : ℕ) (w : List ℤ) (m : Narrowed lent t j w) (same : SameRow v w j) (clear : (j ≡ i → ⊥) → Clear v i j) where
-      was-forbidden : (s : ℕ) (p : List ℤ) → hasShape lent v j s ≡ true → inRanges lent v j p ≡ true
-          → forbidden lent v j s p ≡ true → forbidden lent t j s p ≡ true
+    module _ (j : ℕ) (w : List ℤ) (m : Narrowed block t j w) (same : SameRow v w j) (clear : (j ≡ i → ⊥) → Clear v i j) where
+      was-forbidden : (s : ℕ) (p : List ℤ) → hasShape block v j s ≡ true → inRanges block v j p ≡ true
+          → forbidden block v j s p ≡ true → forbidden block t j s p ≡ true
       was-forbidden s p held ranged e =
-          forbidden-by lent t j s p (record {
+          forbidden-by block t j s p (record {
             rule = f .rule;
             other = f .other;
             rule-below = f .rule-below;
             from = f .from;
-            upto = subst (λ (x : ℕ). f .other ≤ x) (rows-same lent v t (n .as-long)) (f .upto);
+            upto = subst (λ (x : ℕ). f .other ≤ x) (rows-same block v t (n .as-long)) (f .upto);
             kind = f .kind;
             names = f .names;
             another = f .another;
@@ -103,36 +103,36 @@ module _ (lent : Lent) where
             set = ⊎-elim by-row-i (λ ne. set-same v t (f .other) (kept (f .other) (f .from) ne) (f .rule) p j s (f .set)) (same-or (f .other) i);
           })
         where
-          f : Forbids lent v j s p
-          f = forbidden-parts lent v j s p e
+          f : Forbids block v j s p
+          f = forbidden-parts block v j s p e
 
-          by-row-i : f .other ≡ i → setForbids lent t (f .rule) p j s (f .other) ≡ true
+          by-row-i : f .other ≡ i → setForbids block t (f .rule) p j s (f .other) ≡ true
           by-row-i q =
-              let names-i = subst (λ (x : ℕ). namesRow lent (f .rule) x ≡ true) q (f .names-other) in
-              clash (subst (λ (x : ℕ). setForbids lent v (f .rule) p j s x ≡ true) q (f .set))
+              let names-i = subst (λ (x : ℕ). namesRow block (f .rule) x ≡ true) q (f .names-other) in
+              clash (subst (λ (x : ℕ). setForbids block v (f .rule) p j s x ≡ true) q (f .set))
               (clear (λ z. f .another (z ∙ sym q)) .clear (f .rule) s p (f .rule-below) (f .kind) names-i (f .names) held ranged)
 
-      shape-same : (s : ℕ) → hasShape lent v j s ≡ hasShape lent w j s
+      shape-same : (s : ℕ) → hasShape block v j s ≡ hasShape block w j s
       unfolding hasShape
       shape-same s = ap (λ (z : ℤ). holds z s) (same .set)
 
       -- where row j is allowed in t, it is allowed in v
-      module _ (s : ℕ) (p : List ℤ) (held : hasShape lent t j s ≡ true) (e : allowed lent t j s p ≡ true) where
-        held-still : hasShape lent v j s ≡ true
+      module _ (s : ℕ) (p : List ℤ) (held : hasShape block t j s ≡ true) (e : allowed block t j s p ≡ true) where
+        held-still : hasShape block v j s ≡ true
         held-still = shape-same s ∙ m .shapes s .1 (held, (p, e))
 
-        ranged-still : inRanges lent v j p ≡ true
+        ranged-still : inRanges block v j p ≡ true
         ranged-still =
-            ranges-by lent v j p (λ d l.
+            ranges-by block v j p (λ d l.
             let b = m .bounds p (record { shape = s; held = held; stands = e }) d l in
             (subst⁻¹ (λ (z : ℤ). z ≤ℤ word p d) (same .lows d l) (b .0), subst⁻¹ (λ (z : ℤ). word p d ≤ℤ z) (same .highs d l) (b .1)))
 
-        allowed-still : allowed lent v j s p ≡ true
+        allowed-still : allowed block v j s p ≡ true
         allowed-still =
-            let a = allowed-parts lent t j s p e in
-            allowed-by lent v j s p ranged-still (a .1) (λ f. clash (was-forbidden s p held-still ranged-still f) (a .2))
+            let a = allowed-parts block t j s p e in
+            allowed-by block v j s p ranged-still (a .1) (λ f. clash (was-forbidden s p held-still ranged-still f) (a .2))
 
-      stands-still : (p : List ℤ) → Stands lent t j p → Stands lent v j p
+      stands-still : (p : List ℤ) → Stands block t j p → Stands block v j p
       stands-still p st =
           record {
             shape = st .shape;
@@ -140,7 +140,7 @@ module _ (lent : Lent) where
             stands = allowed-still (st .shape) p (st .held) (st .stands);
           }
 
-      stays : Narrowed lent v j v
+      stays : Narrowed block v j v
       stays =
           record {
             as-long = refl;
@@ -151,7 +151,7 @@ module _ (lent : Lent) where
             highs = λ d l.
                 let r = m .highs d l in
                 record { point = r .point; there = r .there ∙ sym (same .highs d l); by = stands-still (r .point) (r .by) };
-            bounds = λ p st d l. in-range lent v j d p (allowed-parts lent v j (st .shape) p (st .stands) .0) l;
+            bounds = λ p st d l. in-range block v j d p (allowed-parts block v j (st .shape) p (st .stands) .0) l;
             shapes = λ s. (
               λ e. let x = m .shapes s .0 (sym (shape-same s) ∙ e) in (e, (x .1 .0, allowed-still s (x .1 .0) (x .0) (x .1 .1))),
               λ x. x .0,
@@ -159,22 +159,22 @@ module _ (lent : Lent) where
           }
 
   -- ---- of the definition
-  module _ (t v : List ℤ) (table : Table lent t) (after : Table lent v) (i : ℕ) (from : 1 ≤ i) (upto : i ≤ rows lent t)
-      (e : narrowOf lent t i ≡ some v) where
-    unmoved : (j : ℕ) → 1 ≤ j → j ≤ rows lent t → (w : List ℤ) → narrowOf lent t j ≡ some w → (Narrowed lent t i v → SameRow v w j)
-        → ((j ≡ i → ⊥) → Clear v i j) → narrowOf lent v j ≡ some v
+  module _ (t v : List ℤ) (table : Table block t) (after : Table block v) (i : ℕ) (from : 1 ≤ i) (upto : i ≤ rows block t)
+      (e : narrowOf block t i ≡ some v) where
+    unmoved : (j : ℕ) → 1 ≤ j → j ≤ rows block t → (w : List ℤ) → narrowOf block t j ≡ some w → (Narrowed block t i v → SameRow v w j)
+        → ((j ≡ i → ⊥) → Clear v i j) → narrowOf block v j ≡ some v
     unmoved j h k w g same clear =
-        by (subst (λ (o : Option (List ℤ)). Narrows lent t i o) e (narrow-finds lent t table i from upto))
-        (subst (λ (o : Option (List ℤ)). Narrows lent t j o) g (narrow-finds lent t table j h k))
+        by (subst (λ (o : Option (List ℤ)). Narrows block t i o) e (narrow-finds block t table i from upto))
+        (subst (λ (o : Option (List ℤ)). Narrows block t j o) g (narrow-finds block t table j h k))
       where
-        by : Narrows lent t i (some v) → Narrows lent t j (some w) → narrowOf lent v j ≡ some v
+        by : Narrows block t i (some v) → Narrows block t j (some w) → narrowOf block v j ≡ some v
         by (narrowed p st n) (narrowed q su m) =
-            narrow-is lent v j h after (subst (λ (x : ℕ). j ≤ x) (sym (rows-same lent v t (n .as-long))) k) (some v)
+            narrow-is block v j h after (subst (λ (x : ℕ). j ≤ x) (sym (rows-same block v t (n .as-long))) k) (some v)
             (narrowed q (stands-still t v i from n j w m (same n) clear q su) (stays t v i from n j w m (same n) clear))
 
-    pub narrow-again : narrowOf lent v i ≡ some v
+    pub narrow-again : narrowOf block v i ≡ some v
     narrow-again =
         unmoved i from upto v e (λ n. record { set = refl; lows = λ d l. refl; highs = λ d l. refl }) (λ ne. absurd (ne refl))
 
-    pub narrow-clear : (j : ℕ) → 1 ≤ j → j ≤ rows lent t → (j ≡ i → ⊥) → Clear v i j → narrowOf lent t j ≡ some t → narrowOf lent v j ≡ some v
+    pub narrow-clear : (j : ℕ) → 1 ≤ j → j ≤ rows block t → (j ≡ i → ⊥) → Clear v i j → narrowOf block t j ≡ some t → narrowOf block v j ≡ some v
     narrow-clear j h k ne clear g = unmoved j h k t g (λ n. kept t v i from n j h ne) (λ z. clear)

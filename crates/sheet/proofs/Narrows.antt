@@ -19,7 +19,7 @@ use Rattle.integers.proofs.Below.{some-upto, upto-some}
 use Rattle.integers.proofs.Sets.{member-ge-1, small-set, holds-setOf, setOf-holds}
 use Rattle.integers.proofs.Lists.{length-pairsBelow, pairsBelow-first, pairsBelow-second, length-replaced, replaced-before}
 use Rattle.integers.proofs.Lists.{replaced-in, replaced-after}
-use Rattle.sheet.specs.Layout.{Lent, axes, rowLen, rowAt, rows, shapeSet, low, high, hasShape}
+use Rattle.sheet.specs.Layout.{axes, rowLen, rowAt, rows, shapeSet, low, high, hasShape}
 use Rattle.sheet.specs.Allowed.{inRanges, allowed}
 use Rattle.sheet.specs.Bounds.{Extreme, nowhere, there, somePoint}
 use Rattle.sheet.specs.Narrow.{Stands, Reached, Narrowed, Narrows, noPlace, narrowed, rowAllowed, keepsShape, narrowLow}
@@ -38,129 +38,129 @@ unfolding valueOr
 extreme-value x none (nowhere h) p e = absurd (h p e)
 extreme-value x (some z) (there q e w h) p g = ((q, e, w), h)
 
-module _ (lent : Lent) (t : List ℤ) (table : Table lent t) (i : ℕ) (from : 1 ≤ i) (upto : i ≤ rows lent t) where
-  small : (s : ℕ) → hasShape lent t i s ≡ true → s ≤ 32
+module _ (block : List ℤ) (t : List ℤ) (table : Table block t) (i : ℕ) (from : 1 ≤ i) (upto : i ≤ rows block t) where
+  small : (s : ℕ) → hasShape block t i s ≡ true → s ≤ 32
   unfolding hasShape
   small s e = small-set {n = 32} (table .sets-upto i from upto) e
 
-  numbered : (s : ℕ) → hasShape lent t i s ≡ true → 1 ≤ s
+  numbered : (s : ℕ) → hasShape block t i s ≡ true → 1 ≤ s
   unfolding hasShape
-  numbered s e = member-ge-1 (shapeSet lent t i) e
+  numbered s e = member-ge-1 (shapeSet block t i) e
 
   -- ---- the row's points
   abbrev shape-allowed : List ℤ → ℕ → Bool
-  shape-allowed p s = hasShape lent t i s && allowed lent t i s p
+  shape-allowed p s = hasShape block t i s && allowed block t i s p
 
-  pub row-allowed-by : (p : List ℤ) → Stands lent t i p → rowAllowed lent t i p ≡ true
+  pub row-allowed-by : (p : List ℤ) → Stands block t i p → rowAllowed block t i p ≡ true
   unfolding rowAllowed
   row-allowed-by p w =
       upto-some (shape-allowed p) (w .shape) (numbered (w .shape) (w .held)) (small (w .shape) (w .held)) (true-and (w .held) (w .stands))
 
-  pub row-allowed-parts : (p : List ℤ) → rowAllowed lent t i p ≡ true → Stands lent t i p
+  pub row-allowed-parts : (p : List ℤ) → rowAllowed block t i p ≡ true → Stands block t i p
   unfolding rowAllowed
   row-allowed-parts p e =
       let w = some-upto (shape-allowed p) e in
       let u = and-true (w .3) in
       record { shape = w .0; held = u .0; stands = u .1 }
 
-  agree : Respects lent t i (rowAllowed lent t i)
-  agree p q h = row-allowed-agree lent t p q h i
+  agree : Respects block t i (rowAllowed block t i)
+  agree p q h = row-allowed-agree block t p q h i
 
-  ranged : (p : List ℤ) → rowAllowed lent t i p ≡ true → inRanges lent t i p ≡ true
-  ranged p e = let w = row-allowed-parts p e in allowed-parts lent t i (w .shape) p (w .stands) .0
+  pub ranged : (p : List ℤ) → rowAllowed block t i p ≡ true → inRanges block t i p ≡ true
+  ranged p e = let w = row-allowed-parts p e in allowed-parts block t i (w .shape) p (w .stands) .0
 
   -- ---- the ends
-  reached-by : (d : ℕ) (z : ℤ) → (q : List ℤ) × (rowAllowed lent t i q ≡ true) × (word q d ≡ z) → Reached lent t i d z
+  reached-by : (d : ℕ) (z : ℤ) → (q : List ℤ) × (rowAllowed block t i q ≡ true) × (word q d ≡ z) → Reached block t i d z
   reached-by d z w = record { point = w .0; there = w .2; by = row-allowed-parts (w .0) (w .1) }
 
-  module _ (p : List ℤ) (st : Stands lent t i p) (d : ℕ) (hd : d < axes lent) where
-    low-found : Reached lent t i d (narrowLow lent t i d) × ((q : List ℤ) → Stands lent t i q → narrowLow lent t i d ≤ℤ word q d)
+  module _ (p : List ℤ) (st : Stands block t i p) (d : ℕ) (hd : d < axes block) where
+    low-found : Reached block t i d (narrowLow block t i d) × ((q : List ℤ) → Stands block t i q → narrowLow block t i d ≤ℤ word q d)
     unfolding narrowLow
     low-found =
-        let x = extreme-value (low lent t i d) _ (least-by lent t i (rowAllowed lent t i) agree ranged d hd) p (row-allowed-by p st) in
+        let x = extreme-value (low block t i d) _ (least-by block t i (rowAllowed block t i) agree ranged d hd) p (row-allowed-by p st) in
         (reached-by d _ (x .0), λ q w. x .1 q (row-allowed-by q w))
 
-    high-found : Reached lent t i d (narrowHigh lent t i d) × ((q : List ℤ) → Stands lent t i q → word q d ≤ℤ narrowHigh lent t i d)
+    high-found : Reached block t i d (narrowHigh block t i d) × ((q : List ℤ) → Stands block t i q → word q d ≤ℤ narrowHigh block t i d)
     unfolding narrowHigh
     high-found =
-        let x = extreme-value (high lent t i d) _ (greatest-by lent t i (rowAllowed lent t i) agree ranged d hd) p (row-allowed-by p st) in
+        let x = extreme-value (high block t i d) _ (greatest-by block t i (rowAllowed block t i) agree ranged d hd) p (row-allowed-by p st) in
         (reached-by d _ (x .0), λ q w. x .1 q (row-allowed-by q w))
 
   -- ---- the words of the narrowed row
-  row-length : length (narrowRow lent t i) ≡ rowLen lent
+  row-length : length (narrowRow block t i) ≡ rowLen block
   unfolding narrowRow rowLen
-  row-length = omega (arith, length-pairsBelow (axes lent) (narrowLow lent t i) (narrowHigh lent t i))
+  row-length = omega (arith, length-pairsBelow (axes block) (narrowLow block t i) (narrowHigh block t i))
 
-  row-low : (d : ℕ) → d < axes lent → word (narrowRow lent t i) (1 + 2 * d) ≡ narrowLow lent t i d
+  row-low : (d : ℕ) → d < axes block → word (narrowRow block t i) (1 + 2 * d) ≡ narrowLow block t i d
   unfolding narrowRow
   row-low d h =
       let z : 1 + 2 * d ≡ suc (2 * d) = omega arith in
-      ap (word (pos (setOf 32 (keepsShape lent t i)) ∷ pairsBelow (axes lent) (narrowLow lent t i) (narrowHigh lent t i))) z
-      ∙ pairsBelow-first (narrowLow lent t i) (narrowHigh lent t i) h
+      ap (word (pos (setOf 32 (keepsShape block t i)) ∷ pairsBelow (axes block) (narrowLow block t i) (narrowHigh block t i))) z
+      ∙ pairsBelow-first (narrowLow block t i) (narrowHigh block t i) h
 
-  row-high : (d : ℕ) → d < axes lent → word (narrowRow lent t i) (2 + 2 * d) ≡ narrowHigh lent t i d
+  row-high : (d : ℕ) → d < axes block → word (narrowRow block t i) (2 + 2 * d) ≡ narrowHigh block t i d
   unfolding narrowRow
   row-high d h =
       let z : 2 + 2 * d ≡ suc (2 * d + 1) = omega arith in
-      ap (word (pos (setOf 32 (keepsShape lent t i)) ∷ pairsBelow (axes lent) (narrowLow lent t i) (narrowHigh lent t i))) z
-      ∙ pairsBelow-second (narrowLow lent t i) (narrowHigh lent t i) h
+      ap (word (pos (setOf 32 (keepsShape block t i)) ∷ pairsBelow (axes block) (narrowLow block t i) (narrowHigh block t i))) z
+      ∙ pairsBelow-second (narrowLow block t i) (narrowHigh block t i) h
 
-  row-set : word (narrowRow lent t i) 0 ≡ pos (setOf 32 (keepsShape lent t i))
+  row-set : word (narrowRow block t i) 0 ≡ pos (setOf 32 (keepsShape block t i))
   unfolding narrowRow
   row-set = refl
 
   -- ---- the table with that row
   abbrev after : List ℤ
-  after = replaced t (rowAt lent i) (narrowRow lent t i)
+  after = replaced t (rowAt block i) (narrowRow block t i)
 
-  fits : rowAt lent i + length (narrowRow lent t i) ≤ length t
-  fits = omega (arith, row-length, row-fits lent t i (table .whole) from upto)
+  fits : rowAt block i + length (narrowRow block t i) ≤ length t
+  fits = omega (arith, row-length, row-fits block t i (table .whole) from upto)
 
-  new-word : (e : ℕ) → e < rowLen lent → word after (rowAt lent i + e) ≡ word (narrowRow lent t i) e
-  new-word e h = replaced-in t (rowAt lent i) (narrowRow lent t i) fits e (omega (arith, row-length))
+  new-word : (e : ℕ) → e < rowLen block → word after (rowAt block i + e) ≡ word (narrowRow block t i) e
+  new-word e h = replaced-in t (rowAt block i) (narrowRow block t i) fits e (omega (arith, row-length))
 
-  new-set : shapeSet lent after i ≡ pos (setOf 32 (keepsShape lent t i))
+  new-set : shapeSet block after i ≡ pos (setOf 32 (keepsShape block t i))
   unfolding shapeSet rowLen
-  new-set = let z : rowAt lent i ≡ rowAt lent i + 0 = omega arith in ap (word after) z ∙ new-word 0 (omega arith) ∙ row-set
+  new-set = let z : rowAt block i ≡ rowAt block i + 0 = omega arith in ap (word after) z ∙ new-word 0 (omega arith) ∙ row-set
 
-  new-low : (d : ℕ) → d < axes lent → low lent after i d ≡ narrowLow lent t i d
+  new-low : (d : ℕ) → d < axes block → low block after i d ≡ narrowLow block t i d
   unfolding low rowLen
   new-low d h =
-      let z : rowAt lent i + 1 + 2 * d ≡ rowAt lent i + (1 + 2 * d) = omega arith in
+      let z : rowAt block i + 1 + 2 * d ≡ rowAt block i + (1 + 2 * d) = omega arith in
       ap (word after) z ∙ new-word (1 + 2 * d) (omega arith) ∙ row-low d h
 
-  new-high : (d : ℕ) → d < axes lent → high lent after i d ≡ narrowHigh lent t i d
+  new-high : (d : ℕ) → d < axes block → high block after i d ≡ narrowHigh block t i d
   unfolding high rowLen
   new-high d h =
-      let z : rowAt lent i + 2 + 2 * d ≡ rowAt lent i + (2 + 2 * d) = omega arith in
+      let z : rowAt block i + 2 + 2 * d ≡ rowAt block i + (2 + 2 * d) = omega arith in
       ap (word after) z ∙ new-word (2 + 2 * d) (omega arith) ∙ row-high d h
 
   -- ---- the shapes
-  shape-stays : (s : ℕ) → hasShape lent after i s ≡ true → (hasShape lent t i s ≡ true) × ((p : List ℤ) × (allowed lent t i s p ≡ true))
+  shape-stays : (s : ℕ) → hasShape block after i s ≡ true → (hasShape block t i s ≡ true) × ((p : List ℤ) × (allowed block t i s p ≡ true))
   unfolding hasShape keepsShape
   shape-stays s e =
-      let a = setOf-holds 32 (keepsShape lent t i) s (ap (λ (z : ℤ). holds z s) (sym new-set) ∙ e) in
+      let a = setOf-holds 32 (keepsShape block t i) s (ap (λ (z : ℤ). holds z s) (sym new-set) ∙ e) in
       let b = and-true (a .1) in
-      (b .0, found lent t i (allowed lent t i s) (b .1))
+      (b .0, found block t i (allowed block t i s) (b .1))
 
-  stays-shape : (s : ℕ) → (hasShape lent t i s ≡ true) × ((p : List ℤ) × (allowed lent t i s p ≡ true)) → hasShape lent after i s ≡ true
+  stays-shape : (s : ℕ) → (hasShape block t i s ≡ true) × ((p : List ℤ) × (allowed block t i s p ≡ true)) → hasShape block after i s ≡ true
   unfolding hasShape keepsShape
   stays-shape s w =
       ap (λ (z : ℤ). holds z s) new-set
-      ∙ holds-setOf 32 (keepsShape lent t i) s (numbered s (w .0)) (small s (w .0))
-      ∙ true-and (w .0) (met lent t i (allowed lent t i s) (λ p q h. allowed-agree lent t p q h i s) (w .1 .0)
-      (allowed-parts lent t i s (w .1 .0) (w .1 .1) .0) (w .1 .1))
+      ∙ holds-setOf 32 (keepsShape block t i) s (numbered s (w .0)) (small s (w .0))
+      ∙ true-and (w .0) (met block t i (allowed block t i s) (λ p q h. allowed-agree block t p q h i s) (w .1 .0)
+      (allowed-parts block t i s (w .1 .0) (w .1 .1) .0) (w .1 .1))
 
-  narrowed-after : (p : List ℤ) → Stands lent t i p → Narrowed lent t i after
+  narrowed-after : (p : List ℤ) → Stands block t i p → Narrowed block t i after
   narrowed-after p st =
       record {
-        as-long = length-replaced t (rowAt lent i) (narrowRow lent t i) fits;
+        as-long = length-replaced t (rowAt block i) (narrowRow block t i) fits;
         others = λ at. (
-          λ h. replaced-before t (rowAt lent i) (narrowRow lent t i) fits at h,
-          λ h. replaced-after t (rowAt lent i) (narrowRow lent t i) fits at (omega (arith, row-length)),
+          λ h. replaced-before t (rowAt block i) (narrowRow block t i) fits at h,
+          λ h. replaced-after t (rowAt block i) (narrowRow block t i) fits at (omega (arith, row-length)),
         );
-        lows = λ d h. subst⁻¹ (λ (z : ℤ). Reached lent t i d z) (new-low d h) (low-found p st d h .0);
-        highs = λ d h. subst⁻¹ (λ (z : ℤ). Reached lent t i d z) (new-high d h) (high-found p st d h .0);
+        lows = λ d h. subst⁻¹ (λ (z : ℤ). Reached block t i d z) (new-low d h) (low-found p st d h .0);
+        highs = λ d h. subst⁻¹ (λ (z : ℤ). Reached block t i d z) (new-high d h) (high-found p st d h .0);
         bounds = λ q w d h. (
           subst⁻¹ (λ (z : ℤ). z ≤ℤ word q d) (new-low d h) (low-found p st d h .1 q w),
           subst⁻¹ (λ (z : ℤ). word q d ≤ℤ z) (new-high d h) (high-found p st d h .1 q w),
@@ -169,19 +169,19 @@ module _ (lent : Lent) (t : List ℤ) (table : Table lent t) (i : ℕ) (from : 1
       }
 
   -- NARROWING: what the definition finds is what must be found
-  pub narrow-finds : Narrows lent t i (narrowOf lent t i)
+  pub narrow-finds : Narrows block t i (narrowOf block t i)
   unfolding narrowOf
-  narrow-finds = ⊎-elim some-point no-point (decide (somePoint lent t i (rowAllowed lent t i)))
+  narrow-finds = ⊎-elim some-point no-point (decide (somePoint block t i (rowAllowed block t i)))
     where
-      some-point : somePoint lent t i (rowAllowed lent t i) ≡ true
-          → Narrows lent t i (cond (somePoint lent t i (rowAllowed lent t i)) (some after) none)
+      some-point : somePoint block t i (rowAllowed block t i) ≡ true
+          → Narrows block t i (cond (somePoint block t i (rowAllowed block t i)) (some after) none)
       some-point e =
-          let q = found lent t i (rowAllowed lent t i) e in
+          let q = found block t i (rowAllowed block t i) e in
           let st = row-allowed-parts (q .0) (q .1) in
-          subst⁻¹ (λ (x : Bool). Narrows lent t i (cond x (some after) none)) e (narrowed (q .0) st (narrowed-after (q .0) st))
+          subst⁻¹ (λ (x : Bool). Narrows block t i (cond x (some after) none)) e (narrowed (q .0) st (narrowed-after (q .0) st))
 
-      no-point : somePoint lent t i (rowAllowed lent t i) ≡ false
-          → Narrows lent t i (cond (somePoint lent t i (rowAllowed lent t i)) (some after) none)
+      no-point : somePoint block t i (rowAllowed block t i) ≡ false
+          → Narrows block t i (cond (somePoint block t i (rowAllowed block t i)) (some after) none)
       no-point e =
-          subst⁻¹ (λ (x : Bool). Narrows lent t i (cond x (some after) none)) e
-          (noPlace (λ p st. clash (met lent t i (rowAllowed lent t i) agree p (ranged p (row-allowed-by p st)) (row-allowed-by p st)) e))
+          subst⁻¹ (λ (x : Bool). Narrows block t i (cond x (some after) none)) e
+          (noPlace (λ p st. clash (met block t i (rowAllowed block t i) agree p (ranged p (row-allowed-by p st)) (row-allowed-by p st)) e))

@@ -15,7 +15,7 @@ use Rattle.integers.proofs.Booleans.{and-true, true-and}
 use Rattle.integers.proofs.Below.{any-at, any-true, last-or}
 use Rattle.integers.proofs.Ints.{eqZ-eq, eq-eqZ}
 use Rattle.integers.proofs.Ranges.{count, count-below}
-use Rattle.sheet.specs.Layout.{Lent, axes, low, high}
+use Rattle.sheet.specs.Layout.{axes, low, high}
 use Rattle.sheet.specs.Allowed.{inRanges}
 use Rattle.sheet.specs.Bounds.{pointFrom, somePoint, reaches}
 use Rattle.sheet.proofs.Forbidden.{in-range}
@@ -39,52 +39,52 @@ stack-at q (suc m) p d h =
     (λ e. ap (word (stack q m (word q m ∷ p))) (e ∙ sym (add-zero m)) ∙ stack-past q m 0 (word q m ∷ p) ∙ ap (word q) (sym e))
     (λ l. stack-at q m (word q m ∷ p) d l) (last-or h)
 
-module _ (lent : Lent) (table : List ℤ) (i : ℕ) where
+module _ (block : List ℤ) (table : List ℤ) (i : ℕ) where
   -- the test does not look past the last dimension
   abbrev pub Respects : (List ℤ → Bool) → Type 0
-  Respects f = (p q : List ℤ) → Agree lent table p q → f p ≡ f q
+  Respects f = (p q : List ℤ) → Agree block table p q → f p ≡ f q
 
   abbrev count-of : ℕ → ℕ
-  count-of m = width (low lent table i m) (high lent table i m)
+  count-of m = width (low block table i m) (high block table i m)
 
   -- ---- what is found passes
-  found-from : (f : List ℤ → Bool) (m : ℕ) (p : List ℤ) → pointFrom lent table i f m p ≡ true → (q : List ℤ) × (f q ≡ true)
+  found-from : (f : List ℤ → Bool) (m : ℕ) (p : List ℤ) → pointFrom block table i f m p ≡ true → (q : List ℤ) × (f q ≡ true)
   unfolding pointFrom
   found-from f zero p e = (p, e)
-  found-from f (suc m) p e = let w = any-at e in found-from f m ((low lent table i m +ℤ pos (w .0)) ∷ p) (w .2)
+  found-from f (suc m) p e = let w = any-at e in found-from f m ((low block table i m +ℤ pos (w .0)) ∷ p) (w .2)
 
-  pub found : (f : List ℤ → Bool) → somePoint lent table i f ≡ true → (q : List ℤ) × (f q ≡ true)
+  pub found : (f : List ℤ → Bool) → somePoint block table i f ≡ true → (q : List ℤ) × (f q ≡ true)
   unfolding somePoint
-  found f e = found-from f (axes lent) [] e
+  found f e = found-from f (axes block) [] e
 
   -- ---- what passes is found
   met-from : (f : List ℤ → Bool) (q : List ℤ) (m : ℕ) (p : List ℤ)
-      → ((d : ℕ) → d < m → (low lent table i d ≤ℤ word q d) × (word q d ≤ℤ high lent table i d))
-      → f (stack q m p) ≡ true → pointFrom lent table i f m p ≡ true
+      → ((d : ℕ) → d < m → (low block table i d ≤ℤ word q d) × (word q d ≤ℤ high block table i d))
+      → f (stack q m p) ≡ true → pointFrom block table i f m p ≡ true
   unfolding pointFrom stack
   met-from f q zero p r e = e
   met-from f q (suc m) p r e =
       let h = r m (omega arith) in
-      any-true (λ c. pointFrom lent table i f m ((low lent table i m +ℤ pos c) ∷ p)) (nat (word q m -ℤ low lent table i m))
+      any-true (λ c. pointFrom block table i f m ((low block table i m +ℤ pos c) ∷ p)) (nat (word q m -ℤ low block table i m))
       (count-below (h .0) (h .1))
-      (ap (λ (z : ℤ). pointFrom lent table i f m (z ∷ p)) (count (h .0)) ∙ met-from f q m (word q m ∷ p) (λ d l. r d (omega arith)) e)
+      (ap (λ (z : ℤ). pointFrom block table i f m (z ∷ p)) (count (h .0)) ∙ met-from f q m (word q m ∷ p) (λ d l. r d (omega arith)) e)
 
-  pub met : (f : List ℤ → Bool) → Respects f → (q : List ℤ) → inRanges lent table i q ≡ true → f q ≡ true → somePoint lent table i f ≡ true
+  pub met : (f : List ℤ → Bool) → Respects f → (q : List ℤ) → inRanges block table i q ≡ true → f q ≡ true → somePoint block table i f ≡ true
   unfolding somePoint
   met f agree q r e =
-      met-from f q (axes lent) [] (λ d l. in-range lent table i d q r l)
-      (agree (stack q (axes lent) []) q (λ d h. stack-at q (axes lent) [] d h) ∙ e)
+      met-from f q (axes block) [] (λ d l. in-range block table i d q r l)
+      (agree (stack q (axes block) []) q (λ d h. stack-at q (axes block) [] d h) ∙ e)
 
   -- ---- a coordinate that is reached
-  pub reached-at : (f : List ℤ → Bool) (d : ℕ) (z : ℤ) → reaches lent table i f d z ≡ true → (q : List ℤ) × (f q ≡ true) × (word q d ≡ z)
+  pub reached-at : (f : List ℤ → Bool) (d : ℕ) (z : ℤ) → reaches block table i f d z ≡ true → (q : List ℤ) × (f q ≡ true) × (word q d ≡ z)
   unfolding reaches
   reached-at f d z e =
       let w = found (λ p. eqZ (word p d) z && f p) e in
       let u = and-true (w .1) in
       (w .0, u .1, eqZ-eq (u .0))
 
-  pub reaches-by : (f : List ℤ → Bool) → Respects f → (d : ℕ) (z : ℤ) → d < axes lent
-      → (q : List ℤ) → inRanges lent table i q ≡ true → f q ≡ true → word q d ≡ z → reaches lent table i f d z ≡ true
+  pub reaches-by : (f : List ℤ → Bool) → Respects f → (d : ℕ) (z : ℤ) → d < axes block
+      → (q : List ℤ) → inRanges block table i q ≡ true → f q ≡ true → word q d ≡ z → reaches block table i f d z ≡ true
   unfolding reaches
   reaches-by f agree d z l q r e w =
       met (λ p. eqZ (word p d) z && f p) (λ p q h. ap₂ (λ (y : ℤ) (x : Bool). eqZ y z && x) (h d l) (agree p q h)) q r (true-and (eq-eqZ w) e)

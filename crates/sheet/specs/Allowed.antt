@@ -10,60 +10,60 @@ use lib.Signed.{leZ}
 use Rattle.integers.specs.Integer.{within}
 use Rattle.integers.specs.Below.{_⇒_, allBelow, anyBelow, anyUpTo}
 use Rattle.integers.specs.Words.{word}
-use Rattle.sheet.specs.Layout.{Lent, dims, boxes, rules, axes, offset, size, isOf, isNonOverlap, isContainment, roomLow}
+use Rattle.sheet.specs.Layout.{dims, boxes, rules, axes, offset, size, isOf, isNonOverlap, isContainment, roomLow}
 use Rattle.sheet.specs.Layout.{roomHigh, namesDim, namesRow, rows, low, high, hasOnly}
 
-module _ (lent : Lent) where
+module _ (block : List ℤ) where
   -- ---- rooms (kind 2)
 
   -- box b, of a row at p, lies in rule r's room in every named dimension
   unfoldable pub boxContained : ℕ → ℕ → List ℤ → Bool
   boxContained r b p =
-      allBelow (dims lent) (λ d. namesDim lent r d ⇒
-      leZ (roomLow lent r d) (word p d +ℤ offset lent b d)
-      && leZ (word p d +ℤ offset lent b d +ℤ size lent b d) (roomHigh lent r d))
+      allBelow (dims block) (λ d. namesDim block r d ⇒
+      leZ (roomLow block r d) (word p d +ℤ offset block b d)
+      && leZ (word p d +ℤ offset block b d +ℤ size block b d) (roomHigh block r d))
 
   -- every box of shape s, for every room rule that names row i
   unfoldable pub roomsHold : ℕ → ℕ → List ℤ → Bool
   roomsHold i s p =
-      allBelow (rules lent) (λ r. isContainment lent r && namesRow lent r i ⇒
-      allBelow (boxes lent) (λ b. isOf lent b s ⇒ boxContained r b p))
+      allBelow (rules block) (λ r. isContainment block r && namesRow block r i ⇒
+      allBelow (boxes block) (λ b. isOf block b s ⇒ boxContained r b p))
 
   module _ (table : List ℤ) where
     unfoldable pub inRanges : ℕ → List ℤ → Bool
-    inRanges i p = allBelow (axes lent) (λ d. within (low lent table i d) (high lent table i d) (word p d))
+    inRanges i p = allBelow (axes block) (λ d. within (low block table i d) (high block table i d) (word p d))
 
     -- ---- non-overlap (kind 1)
 
     -- the first and the last number that rule r, by box c of row j, forbids to row i with box b in dimension d:
     -- max + t' − t − l + 1 and min + t' + l' − t − 1
     unfoldable pub forbidFrom : ℕ → ℕ → ℕ → ℕ → ℕ → ℕ → ℤ
-    forbidFrom r i b j c d = high lent table j d +ℤ offset lent c d -ℤ offset lent b d -ℤ size lent b d +ℤ pos 1
+    forbidFrom r i b j c d = high block table j d +ℤ offset block c d -ℤ offset block b d -ℤ size block b d +ℤ pos 1
 
     unfoldable pub forbidTo : ℕ → ℕ → ℕ → ℕ → ℕ → ℕ → ℤ
-    forbidTo r i b j c d = low lent table j d +ℤ offset lent c d +ℤ size lent c d -ℤ offset lent b d -ℤ pos 1
+    forbidTo r i b j c d = low block table j d +ℤ offset block c d +ℤ size block c d -ℤ offset block b d -ℤ pos 1
 
     -- the same pair of boxes in every dimension that rule r names
     unfoldable pub pairForbids : ℕ → List ℤ → ℕ → ℕ → ℕ → ℕ → Bool
     pairForbids r p i b j c =
-        allBelow (dims lent) (λ d. namesDim lent r d ⇒ within (forbidFrom r i b j c d) (forbidTo r i b j c d) (word p d))
+        allBelow (dims block) (λ d. namesDim block r d ⇒ within (forbidFrom r i b j c d) (forbidTo r i b j c d) (word p d))
 
     -- one box of s and one box of s' are enough
     unfoldable pub shapesForbid : ℕ → List ℤ → ℕ → ℕ → ℕ → ℕ → Bool
     shapesForbid r p i s j s' =
-        anyBelow (boxes lent) (λ b. isOf lent b s && anyBelow (boxes lent) (λ c. isOf lent c s' && pairForbids r p i b j c))
+        anyBelow (boxes block) (λ b. isOf block b s && anyBelow (boxes block) (λ c. isOf block c s' && pairForbids r p i b j c))
 
     -- row j's set holds exactly one shape s'; a row with several shapes forbids nothing
     unfoldable pub setForbids : ℕ → List ℤ → ℕ → ℕ → ℕ → Bool
-    setForbids r p i s j = anyUpTo 32 (λ s'. hasOnly lent table j s' && shapesForbid r p i s j s')
+    setForbids r p i s j = anyUpTo 32 (λ s'. hasOnly block table j s' && shapesForbid r p i s j s')
 
     -- rule r names row j, which is another row than i
     unfoldable pub rowForbids : ℕ → List ℤ → ℕ → ℕ → ℕ → Bool
-    rowForbids r p i s j = not (eqb i j) && namesRow lent r j && setForbids r p i s j
+    rowForbids r p i s j = not (eqb i j) && namesRow block r j && setForbids r p i s j
 
     unfoldable pub forbidden : ℕ → ℕ → List ℤ → Bool
     forbidden i s p =
-        anyBelow (rules lent) (λ r. isNonOverlap lent r && namesRow lent r i && anyUpTo (rows lent table) (rowForbids r p i s))
+        anyBelow (rules block) (λ r. isNonOverlap block r && namesRow block r i && anyUpTo (rows block table) (rowForbids r p i s))
 
     -- ---- row i with shape s at point p
     unfoldable pub allowed : ℕ → ℕ → List ℤ → Bool

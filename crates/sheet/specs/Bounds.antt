@@ -11,7 +11,7 @@ use lib.Signed.{_≤ℤ_}
 use Rattle.integers.specs.Integer.{eqZ, width}
 use Rattle.integers.specs.Below.{anyBelow, leastBelow, greatestBelow}
 use Rattle.integers.specs.Words.{word}
-use Rattle.sheet.specs.Layout.{Lent, axes, low, high}
+use Rattle.sheet.specs.Layout.{axes, low, high}
 use Rattle.sheet.specs.Allowed.{allowed}
 
 -- none: no point passes f; some z: a point that passes has z for its coordinate in dimension d, and each such point lies at
@@ -31,16 +31,16 @@ unfoldable pub above : ℤ → Option ℕ → Option ℤ
 above a none = none
 above a (some c) = some (a +ℤ pos c)
 
-module _ (lent : Lent) (table : List ℤ) where
+module _ (block : List ℤ) (table : List ℤ) where
   -- f passes at some point whose coordinates below dimension m lie in row i's ranges, those from m on being p
   unfoldable pub pointFrom : ℕ → (List ℤ → Bool) → ℕ → List ℤ → Bool
   pointFrom i f zero p = f p
   pointFrom i f (suc m) p =
-      anyBelow (width (low lent table i m) (high lent table i m)) (λ c. pointFrom i f m ((low lent table i m +ℤ pos c) ∷ p))
+      anyBelow (width (low block table i m) (high block table i m)) (λ c. pointFrom i f m ((low block table i m +ℤ pos c) ∷ p))
 
   -- f passes at some point of row i's ranges
   unfoldable pub somePoint : ℕ → (List ℤ → Bool) → Bool
-  somePoint i f = pointFrom i f (axes lent) []
+  somePoint i f = pointFrom i f (axes block) []
 
   -- at one whose coordinate in dimension d is z
   unfoldable pub reaches : ℕ → (List ℤ → Bool) → ℕ → ℤ → Bool
@@ -49,20 +49,20 @@ module _ (lent : Lent) (table : List ℤ) where
   -- the numbers of row i's range in dimension d are tried in turn
   unfoldable pub leastBy : ℕ → (List ℤ → Bool) → ℕ → Option ℤ
   leastBy i f d =
-      above (low lent table i d)
-      (leastBelow (width (low lent table i d) (high lent table i d)) (λ c. reaches i f d (low lent table i d +ℤ pos c)))
+      above (low block table i d)
+      (leastBelow (width (low block table i d) (high block table i d)) (λ c. reaches i f d (low block table i d +ℤ pos c)))
 
   unfoldable pub greatestBy : ℕ → (List ℤ → Bool) → ℕ → Option ℤ
   greatestBy i f d =
-      above (low lent table i d)
-      (greatestBelow (width (low lent table i d) (high lent table i d)) (λ c. reaches i f d (low lent table i d +ℤ pos c)))
+      above (low block table i d)
+      (greatestBelow (width (low block table i d) (high block table i d)) (λ c. reaches i f d (low block table i d +ℤ pos c)))
 
   -- of row i with shape s in dimension d
   unfoldable pub leastOf : ℕ → ℕ → ℕ → Option ℤ
-  leastOf i s d = leastBy i (allowed lent table i s) d
+  leastOf i s d = leastBy i (allowed block table i s) d
 
   unfoldable pub greatestOf : ℕ → ℕ → ℕ → Option ℤ
-  greatestOf i s d = greatestBy i (allowed lent table i s) d
+  greatestOf i s d = greatestBy i (allowed block table i s) d
 
 -- one name that opens every definition above: `unfolding bounding`
 unfoldable pub bounding : Unit {0}

@@ -13,16 +13,9 @@ use Rattle.integers.specs.Below.{_⇒_, allBelow, anyBelow, allUpTo}
 use Rattle.integers.specs.Bits.{bit, holds, holdsOnly}
 use Rattle.integers.specs.Words.{word}
 
--- what is lent and never written
-pub record Lent : Type 0 where
-  pub block : List ℤ
-
-abbrev pub lentOf : List ℤ → Lent
-lentOf b = record { block = b }
-
-module _ (lent : Lent) where
+module _ (block : List ℤ) where
   abbrev blockWord : ℕ → ℤ
-  blockWord at = word (lent .block) at
+  blockWord at = word block at
 
   -- k, B and R
   unfoldable pub dims : ℕ

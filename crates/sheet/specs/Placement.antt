@@ -10,34 +10,34 @@ use lib.Signed.{leZ}
 use Rattle.integers.specs.Integer.{eqZ}
 use Rattle.integers.specs.Below.{_⇒_, allBelow, anyBelow, allUpTo, anyUpTo}
 use Rattle.integers.specs.Words.{listBelow}
-use Rattle.sheet.specs.Layout.{Lent, dims, boxes, rules, axes, offset, size, isOf, isNonOverlap, namesDim, namesRow, rows}
+use Rattle.sheet.specs.Layout.{dims, boxes, rules, axes, offset, size, isOf, isNonOverlap, namesDim, namesRow, rows}
 use Rattle.sheet.specs.Layout.{low, high, hasShape, hasOnly}
 use Rattle.sheet.specs.Allowed.{roomsHold, allowed}
 
-module _ (lent : Lent) (table : List ℤ) where
+module _ (block : List ℤ) (table : List ℤ) where
   -- the set of row i has one shape, and each range one number
   unfoldable pub rowFixed : ℕ → Bool
-  rowFixed i = anyUpTo 32 (hasOnly lent table i) && allBelow (axes lent) (λ d. eqZ (low lent table i d) (high lent table i d))
+  rowFixed i = anyUpTo 32 (hasOnly block table i) && allBelow (axes block) (λ d. eqZ (low block table i d) (high block table i d))
 
   unfoldable pub fixed : Bool
-  fixed = allUpTo (rows lent table) rowFixed
+  fixed = allUpTo (rows block table) rowFixed
 
   -- a fixed row's point
   unfoldable pub pointOf : ℕ → List ℤ
-  pointOf i = listBelow (axes lent) (low lent table i)
+  pointOf i = listBelow (axes block) (low block table i)
 
   -- each row's point is allowed
   unfoldable pub good : Bool
-  good = allUpTo (rows lent table) (λ i. allUpTo 32 (λ s. hasShape lent table i s ⇒ allowed lent table i s (pointOf i)))
+  good = allUpTo (rows block table) (λ i. allUpTo 32 (λ s. hasShape block table i s ⇒ allowed block table i s (pointOf i)))
 
   -- ---- the catalogue
 
   -- where box b of row i starts and ends
   unfoldable pub boxStart : ℕ → ℕ → ℕ → ℤ
-  boxStart i b d = low lent table i d +ℤ offset lent b d
+  boxStart i b d = low block table i d +ℤ offset block b d
 
   unfoldable pub boxEnd : ℕ → ℕ → ℕ → ℤ
-  boxEnd i b d = low lent table i d +ℤ offset lent b d +ℤ size lent b d
+  boxEnd i b d = low block table i d +ℤ offset block b d +ℤ size block b d
 
   -- under rule r, box b of row i and box c of row j are clear of each other in dimension d: one starts at or past the other's end
   unfoldable pub clear : ℕ → ℕ → ℕ → ℕ → ℕ → ℕ → Bool
@@ -45,24 +45,24 @@ module _ (lent : Lent) (table : List ℤ) where
 
   -- in some dimension that rule r names
   unfoldable pub boxesClear : ℕ → ℕ → ℕ → ℕ → ℕ → Bool
-  boxesClear r i b j c = anyBelow (dims lent) (λ d. namesDim lent r d && clear r i b j c d)
+  boxesClear r i b j c = anyBelow (dims block) (λ d. namesDim block r d && clear r i b j c d)
 
   -- each box of row i and each box of row j
   unfoldable pub noOverlap : ℕ → ℕ → ℕ → Bool
   noOverlap r i j =
-      allUpTo 32 (λ s. hasShape lent table i s ⇒ allUpTo 32 (λ s'. hasShape lent table j s' ⇒
-      allBelow (boxes lent) (λ b. isOf lent b s ⇒ allBelow (boxes lent) (λ c. isOf lent c s' ⇒ boxesClear r i b j c))))
+      allUpTo 32 (λ s. hasShape block table i s ⇒ allUpTo 32 (λ s'. hasShape block table j s' ⇒
+      allBelow (boxes block) (λ b. isOf block b s ⇒ allBelow (boxes block) (λ c. isOf block c s' ⇒ boxesClear r i b j c))))
 
   -- each two rows that a kind 1 rule names
   unfoldable pub noneOverlap : Bool
   noneOverlap =
-      allBelow (rules lent) (λ r. isNonOverlap lent r ⇒
-      allUpTo (rows lent table) (λ j. namesRow lent r j ⇒
-      allUpTo (rows lent table) (λ i. ltb i j && namesRow lent r i ⇒ noOverlap r i j)))
+      allBelow (rules block) (λ r. isNonOverlap block r ⇒
+      allUpTo (rows block table) (λ j. namesRow block r j ⇒
+      allUpTo (rows block table) (λ i. ltb i j && namesRow block r i ⇒ noOverlap r i j)))
 
   -- every room rule
   unfoldable pub allContained : Bool
-  allContained = allUpTo (rows lent table) (λ i. allUpTo 32 (λ s. hasShape lent table i s ⇒ roomsHold lent i s (pointOf i)))
+  allContained = allUpTo (rows block table) (λ i. allUpTo 32 (λ s. hasShape block table i s ⇒ roomsHold block i s (pointOf i)))
 
   unfoldable pub catalogueGood : Bool
   catalogueGood = noneOverlap && allContained

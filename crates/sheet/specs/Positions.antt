@@ -12,7 +12,7 @@ use Rattle.integers.specs.Below.{allBelow, sumBelow}
 use Rattle.integers.specs.Bits.{bit}
 use Rattle.integers.specs.Words.{word, sameWords}
 use Rattle.sheet.specs.Computing.{computing}
-use Rattle.sheet.specs.Layout.{Lent, lentOf, rowLen, rows}
+use Rattle.sheet.specs.Layout.{rowLen, rows}
 use Rattle.sheet.specs.Allowed.{forbidFrom, forbidTo, forbidden}
 use Rattle.sheet.specs.Placement.{good, catalogueGood}
 use Rattle.sheet.specs.Bounds.{leastOf}
@@ -56,9 +56,9 @@ sameTruth true b = b
 sameTruth false b = not b
 
 -- for every z from −10 to 10: z is forbidden to row i with shape s exactly when it lies from .. to ..
-unfoldable pub forbidsOnly : Lent → List ℤ → ℕ → ℕ → ℤ → ℤ → Bool
-forbidsOnly lent table i s from to =
-    allBelow 21 (λ m. let z = minus 10 +ℤ pos m in sameTruth (forbidden lent table i s (z ∷ [])) (within from to z))
+unfoldable pub forbidsOnly : List ℤ → List ℤ → ℕ → ℕ → ℤ → ℤ → Bool
+forbidsOnly block table i s from to =
+    allBelow 21 (λ m. let z = minus 10 +ℤ pos m in sameTruth (forbidden block table i s (z ∷ [])) (within from to z))
 
 -- how many ways there are to fix every range of ws to one number, as f counts each
 unfoldable pub countRanges : List ℤ → (List ℤ → ℕ) → ℕ
@@ -76,23 +76,23 @@ countRows len (suc n) ws f =
     ])
 
 -- how many of the placements inside the table pass a test
-unfoldable pub placementsBy : Lent → List ℤ → (List ℤ → Bool) → ℕ
-placementsBy lent table test = countRows (rowLen lent) (rows lent table) table (λ p. cond (test p) 1 0)
+unfoldable pub placementsBy : List ℤ → List ℤ → (List ℤ → Bool) → ℕ
+placementsBy block table test = countRows (rowLen block) (rows block table) table (λ p. cond (test p) 1 0)
 
-unfoldable pub answered : Lent → List ℤ → Asked → Bool
-answered lent table (hasLeast i s z) = sameNumber (leastOf lent table i s 0) z
-answered lent table (forbids i s b j c from to) =
-    eqZ (forbidFrom lent table 0 i b j c 0) from && eqZ (forbidTo lent table 0 i b j c 0) to && forbidsOnly lent table i s from to
-answered lent table (narrows i t) = sameTable (narrowOf lent table i) t
-answered lent table (settles t) = sameTable (settleOf lent table) t
-answered lent table (hasLayouts placements layouts) =
-    eqb (placementsBy lent table (λ p. eqb (refusalPlacement lent p) 0)) placements && eqb (placementsBy lent table (good lent)) layouts
-answered lent table (isGood b) =
-    eqb (refusalPlacement lent table) 0 && sameTruth (good lent table) b && sameTruth (catalogueGood lent table) b
+unfoldable pub answered : List ℤ → List ℤ → Asked → Bool
+answered block table (hasLeast i s z) = sameNumber (leastOf block table i s 0) z
+answered block table (forbids i s b j c from to) =
+    eqZ (forbidFrom block table 0 i b j c 0) from && eqZ (forbidTo block table 0 i b j c 0) to && forbidsOnly block table i s from to
+answered block table (narrows i t) = sameTable (narrowOf block table i) t
+answered block table (settles t) = sameTable (settleOf block table) t
+answered block table (hasLayouts placements layouts) =
+    eqb (placementsBy block table (λ p. eqb (refusalPlacement block p) 0)) placements && eqb (placementsBy block table (good block)) layouts
+answered block table (isGood b) =
+    eqb (refusalPlacement block table) 0 && sameTruth (good block table) b && sameTruth (catalogueGood block table) b
 
 -- the sheet is accepted, and the answer is right
 unfoldable pub passes : Case → Bool
-passes c = eqb (refusal (lentOf (c .block)) (c .table)) 0 && answered (lentOf (c .block)) (c .table) (c .asked)
+passes c = eqb (refusal (c .block) (c .table)) 0 && answered (c .block) (c .table) (c .asked)
 
 unfoldable pub allPass : List Case → Bool
 allPass [] = true

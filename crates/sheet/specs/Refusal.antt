@@ -11,7 +11,7 @@ use lib.Signed.{leZ, ltZ}
 use Rattle.integers.specs.Integer.{nat, within}
 use Rattle.integers.specs.Below.{allBelow, allUpTo}
 use Rattle.integers.specs.Words.{word}
-use Rattle.sheet.specs.Layout.{Lent, axes, boxes, rules, rowLen, blockLen, rowAt, validBox, validRule, rows, hasShape, validRow}
+use Rattle.sheet.specs.Layout.{axes, boxes, rules, rowLen, blockLen, rowAt, validBox, validRule, rows, hasShape, validRow}
 use Rattle.sheet.specs.Placement.{fixed}
 
 -- a refusal's number where its check applies, and 0 where it does not
@@ -26,51 +26,51 @@ unfoldable pub _else_ : ℕ → ℕ → ℕ
 zero else h = h
 suc g else h = suc g
 
-module _ (lent : Lent) where
+module _ (block : List ℤ) where
   -- 2: fewer than 3 words, or k outside 1 to 4
   unfoldable pub badHead : Bool
-  badHead = ltb (length (lent .block)) 3 || not (within (pos 1) (pos 4) (word (lent .block) 0))
+  badHead = ltb (length block) 3 || not (within (pos 1) (pos 4) (word block 0))
 
   -- 3: B or R outside its range
   unfoldable pub badCounts : Bool
-  badCounts = not (within (pos 1) (pos 128) (word (lent .block) 1) && within (pos 0) (pos 32) (word (lent .block) 2))
+  badCounts = not (within (pos 1) (pos 128) (word block 1) && within (pos 0) (pos 32) (word block 2))
 
   -- 4
   unfoldable pub badBlockLength : Bool
-  badBlockLength = not (eqb (length (lent .block)) (blockLen lent))
+  badBlockLength = not (eqb (length block) (blockLen block))
 
   -- 6
   unfoldable pub badBox : Bool
-  badBox = not (allBelow (boxes lent) (validBox lent))
+  badBox = not (allBelow (boxes block) (validBox block))
 
   module _ (table : List ℤ) where
     -- 5: not n(1 + 2k) words with n from 1 to 32
     unfoldable pub badTableLength : Bool
-    badTableLength = not (eqb (length table) (rows lent table * rowLen lent) && leb 1 (rows lent table) && leb (rows lent table) 32)
+    badTableLength = not (eqb (length table) (rows block table * rowLen block) && leb 1 (rows block table) && leb (rows block table) 32)
 
     -- 7
     unfoldable pub badRule : Bool
-    badRule = not (allBelow (rules lent) (validRule lent (rows lent table)))
+    badRule = not (allBelow (rules block) (validRule block (rows block table)))
 
     -- 8
     unfoldable pub badRow : Bool
-    badRow = not (allUpTo (rows lent table) (validRow lent table))
+    badRow = not (allUpTo (rows block table) (validRow block table))
 
     -- 9: the row asked about is outside 1 to n
     unfoldable pub noSuchRow : ℤ → Bool
-    noSuchRow row = not (within (pos 1) (pos (rows lent table)) row)
+    noSuchRow row = not (within (pos 1) (pos (rows block table)) row)
 
     -- 10: the shape asked about is not in that row's set
     unfoldable pub noSuchShape : ℤ → ℤ → Bool
-    noSuchShape row shape = not (hasShape lent table (nat row) (nat shape))
+    noSuchShape row shape = not (hasShape block table (nat row) (nat shape))
 
     -- 11: the dimension asked about is outside 0 to k − 1
     unfoldable pub noSuchDim : ℤ → Bool
-    noSuchDim dim = not (leZ (pos 0) dim && ltZ dim (pos (axes lent)))
+    noSuchDim dim = not (leZ (pos 0) dim && ltZ dim (pos (axes block)))
 
     -- 12: the placement is not fixed
     unfoldable pub notFixed : Bool
-    notFixed = not (fixed lent table)
+    notFixed = not (fixed block table)
 
     -- ---- the first that applies: for a call that is given a sheet
     unfoldable pub refusal : ℕ
@@ -96,7 +96,7 @@ module _ (lent : Lent) where
 
     -- ---- the row slice: the part of the table where the row stands; empty when refused
     unfoldable pub sliceUnless : ℕ → ℕ → List ℤ
-    sliceUnless zero i = take (rowLen lent) (drop (rowAt lent i) table)
+    sliceUnless zero i = take (rowLen block) (drop (rowAt block i) table)
     sliceUnless (suc g) i = []
 
     unfoldable pub rowSlice : ℤ → List ℤ
@@ -104,7 +104,7 @@ module _ (lent : Lent) where
 
     -- where it starts; 0 when refused
     unfoldable pub startUnless : ℕ → ℕ → ℕ
-    startUnless zero i = rowAt lent i
+    startUnless zero i = rowAt block i
     startUnless (suc g) i = 0
 
     unfoldable pub rowStart : ℤ → ℕ

@@ -14,24 +14,24 @@ use Rattle.integers.specs.Below.{sumBelow}
 use Rattle.integers.specs.Words.{sameWords}
 use Rattle.fixpoint.specs.Finding.{Finds}
 use Rattle.fixpoint.specs.Passes.{settleBy}
-use Rattle.sheet.specs.Layout.{Lent, axes, rows, shapeSet, low, high, hasShape}
+use Rattle.sheet.specs.Layout.{axes, rows, shapeSet, low, high, hasShape}
 use Rattle.sheet.specs.Allowed.{allowed}
 use Rattle.sheet.specs.Narrow.{Reached, narrowOf}
 
-module _ (lent : Lent) where
+module _ (block : List ℤ) where
   -- each end of each range of a row is the coordinate, in that range's dimension, of a point at which the row, with some shape of
   -- its set, is allowed in the same table, and each shape of a row's set has a point at which the row with it is
   pub record Settled (table : List ℤ) : Type 0 where
-    pub lows : (i d : ℕ) → 1 ≤ i → i ≤ rows lent table → d < axes lent → Reached lent table i d (low lent table i d)
-    pub highs : (i d : ℕ) → 1 ≤ i → i ≤ rows lent table → d < axes lent → Reached lent table i d (high lent table i d)
-    pub shapes : (i s : ℕ) → 1 ≤ i → i ≤ rows lent table → hasShape lent table i s ≡ true → (p : List ℤ) × (allowed lent table i s p ≡ true)
+    pub lows : (i d : ℕ) → 1 ≤ i → i ≤ rows block table → d < axes block → Reached block table i d (low block table i d)
+    pub highs : (i d : ℕ) → 1 ≤ i → i ≤ rows block table → d < axes block → Reached block table i d (high block table i d)
+    pub shapes : (i s : ℕ) → 1 ≤ i → i ≤ rows block table → hasShape block table i s ≡ true → (p : List ℤ) × (allowed block table i s p ≡ true)
 
   -- as many rows, and each range and set within its counterpart
   pub record Inside (inner outer : List ℤ) : Type 0 where
     pub as-long : length inner ≡ length outer
-    pub lows : (i d : ℕ) → 1 ≤ i → i ≤ rows lent outer → d < axes lent → low lent outer i d ≤ℤ low lent inner i d
-    pub highs : (i d : ℕ) → 1 ≤ i → i ≤ rows lent outer → d < axes lent → high lent inner i d ≤ℤ high lent outer i d
-    pub shapes : (i s : ℕ) → 1 ≤ i → i ≤ rows lent outer → hasShape lent inner i s ≡ true → hasShape lent outer i s ≡ true
+    pub lows : (i d : ℕ) → 1 ≤ i → i ≤ rows block outer → d < axes block → low block outer i d ≤ℤ low block inner i d
+    pub highs : (i d : ℕ) → 1 ≤ i → i ≤ rows block outer → d < axes block → high block inner i d ≤ℤ high block outer i d
+    pub shapes : (i s : ℕ) → 1 ≤ i → i ≤ rows block outer → hasShape block inner i s ≡ true → hasShape block outer i s ≡ true
 
   -- none: no settled table lies inside; some t: t is settled, lies inside, and every settled table inside lies inside t
   abbrev pub Settles : List ℤ → Option (List ℤ) → Type 0
@@ -40,13 +40,13 @@ module _ (lent : Lent) where
   -- the sets as numbers, and the widths of the ranges: it falls with each pass in which a word moves
   unfoldable pub extent : List ℤ → ℕ
   extent table =
-      sumBelow (rows lent table) (λ m.
-      nat (shapeSet lent table (suc m))
-      + sumBelow (axes lent) (λ d. width (low lent table (suc m) d) (high lent table (suc m) d)))
+      sumBelow (rows block table) (λ m.
+      nat (shapeSet block table (suc m))
+      + sumBelow (axes block) (λ d. width (low block table (suc m) d) (high block table (suc m) d)))
 
   -- rows 1 to n narrowed in turn, and again until a pass moves nothing
   unfoldable pub settleOf : List ℤ → Option (List ℤ)
-  settleOf table = settleBy (λ m t. narrowOf lent t (suc m)) sameWords (rows lent table) extent table
+  settleOf table = settleBy (λ m t. narrowOf block t (suc m)) sameWords (rows block table) extent table
 
 -- one name that opens every definition above: `unfolding settling`
 unfoldable pub settling : Unit {0}

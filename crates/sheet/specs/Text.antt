@@ -10,7 +10,7 @@ use lib.Dec.{eqb, leb, ltb}
 use lib.ListN.{length, take, drop, replicate}
 use lib.IntN.{ℤ, pos, negsuc}
 use Rattle.integers.specs.Integer.{minus}
-use Rattle.sheet.specs.Layout.{Lent, lentOf, rowLen, rows}
+use Rattle.sheet.specs.Layout.{rowLen, rows}
 use Rattle.sheet.specs.Settle.{settleOf}
 use Rattle.sheet.specs.Refusal.{refusal}
 
@@ -128,7 +128,7 @@ readText text = elim (leb (length text) 65536) [ true ↦ readLines (split 10 te
 -- checks 1 to 8
 unfoldable pub refusalRead : Option Sheet → ℕ
 refusalRead none = 1
-refusalRead (some w) = refusal (lentOf (w .block)) (w .table)
+refusalRead (some w) = refusal (w .block) (w .table)
 
 unfoldable pub refusalText : List ℕ → ℕ
 refusalText text = refusalRead (readText text)
@@ -186,16 +186,16 @@ rowLines len zero m ws = []
 rowLines len (suc count) m ws = shown (pos (suc m)) ++ commas (take len ws) ++ rowLines len count (suc m) (drop len ws)
 
 -- the answer on a sheet: its refusal, or what settling found
-unfoldable pub printedFor : ℕ → Lent → Option (List ℤ) → List ℕ
-printedFor zero lent none = ascii "NO LAYOUT\n"
-printedFor zero lent (some t) =
-    ascii "SETTLED" ++ commas (pos (rows lent t) ∷ []) ++ rowLines (rowLen lent) (rows lent t) 0 t
-printedFor (suc g) lent o = ascii "REFUSED" ++ commas (pos (suc g) ∷ [])
+unfoldable pub printedFor : ℕ → List ℤ → Option (List ℤ) → List ℕ
+printedFor zero block none = ascii "NO LAYOUT\n"
+printedFor zero block (some t) =
+    ascii "SETTLED" ++ commas (pos (rows block t) ∷ []) ++ rowLines (rowLen block) (rows block t) 0 t
+printedFor (suc g) block o = ascii "REFUSED" ++ commas (pos (suc g) ∷ [])
 
 unfoldable pub printed : List ℕ → List ℕ
 printed text =
-    let lent = lentOf (sheetRead text .block) in
-    printedFor (refusalText text) lent (settleOf lent (sheetRead text .table))
+    let block = sheetRead text .block in
+    printedFor (refusalText text) block (settleOf block (sheetRead text .table))
 
 -- one name that opens every definition above: `unfolding reading-and-printing`
 unfoldable pub reading-and-printing : Unit {0}

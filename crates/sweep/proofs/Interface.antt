@@ -14,9 +14,10 @@ use lib.Signed.{_≤ℤ_}
 use Rattle.integers.specs.Words.{word}
 use Rattle.integers.proofs.Below.{below-or}
 use Rattle.integers.proofs.Machine.{within-by, within-between}
+use Rattle.points.specs.Area.{coordinates}
 use Rattle.sweep.specs.declared.Sweep.{Sweep}
 use Rattle.sweep.specs.Point.{InBox, Near, turn, turned}
-use Rattle.sweep.specs.Rotation.{axes, rotation}
+use Rattle.sweep.specs.Rotation.{rotation}
 use Rattle.sweep.specs.Theorem.{Range, Reached, SweepTheorem}
 use Rattle.sweep.proofs.Rotations.{rotation-order}
 pub use Rattle.sweep.proofs.Rotations.{rotation-first}
@@ -24,7 +25,7 @@ use Rattle.sweep.proofs.Mirror.{word-turned, turn-word}
 pub use Rattle.sweep.proofs.Theorem.{sweep-theorem}
 
 -- the range of a sweep of dimension d
-pub rotation-range : {k d : ℕ} {low high : List ℤ} → k ≤ axes → d < k → k ≤ length low → k ≤ length high → InBox k low high low
+pub rotation-range : {k d : ℕ} {low high : List ℤ} → k ≤ coordinates → d < k → k ≤ length low → k ≤ length high → InBox k low high low
     → Range k (rotation k d) low high
 rotation-range a h l g w = record { dims = omega arith; orders = rotation-order a h; low-long = l; high-long = g; filled = w }
 

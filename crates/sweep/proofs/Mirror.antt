@@ -22,10 +22,6 @@ turn-turn false z = refl
 neg-reverses : {a b : ℤ} → a ≤ℤ b → negℤ b ≤ℤ negℤ a
 neg-reverses {a} {b} h = omega (ints, neg a, neg b)
 
-pub turn-reverses : {a b : ℤ} → a ≤ℤ b → turn true b ≤ℤ turn true a
-unfolding turn
-turn-reverses h = neg-reverses h
-
 pub reverses-turn : (a b : ℤ) → turn true a ≤ℤ turn true b → b ≤ℤ a
 unfolding turn
 reverses-turn a b h = omega (ints, neg a, neg b)

@@ -19,7 +19,8 @@ use Rattle.integers.specs.Integer.{Within}
 use Rattle.integers.specs.Words.{word}
 use Rattle.integers.proofs.Ints.{ints, test-of-le}
 use Rattle.integers.proofs.Machine.{within-weaken, within-sum, within-fits}
-use Rattle.sweep.specs.Point.{reach, Near, next, nexts, lesser, lessers}
+use Rattle.points.specs.Area.{minZ}
+use Rattle.sweep.specs.Point.{reach, Near, next, nexts, lessers}
 
 -- a point of small words is near
 pub near-of : {n : ℕ} {p : List ℤ} → n ≤ reach → ((i : ℕ) → Within n (word p i)) → Near p
@@ -52,32 +53,22 @@ length-lessers [] q = omega arith
 length-lessers (y ∷ p) [] = omega arith
 length-lessers (y ∷ p) (z ∷ q) = let e = length-lessers p q in omega arith
 
-pub word-lessers : (p q : List ℤ) (i : ℕ) → i < length p → i < length q → word (lessers p q) i ≡ lesser (word p i) (word q i)
+pub word-lessers : (p q : List ℤ) (i : ℕ) → i < length p → i < length q → word (lessers p q) i ≡ minZ (word p i) (word q i)
 unfolding lessers zipWith
 word-lessers [] q i h g = absurd (not-suc-le-zero h)
 word-lessers (y ∷ p) [] i h g = absurd (not-suc-le-zero g)
 word-lessers (y ∷ p) (z ∷ q) zero h g = refl
 word-lessers (y ∷ p) (z ∷ q) (suc i) h g = word-lessers p q i (le-of-suc-le-suc h) (le-of-suc-le-suc g)
 
-pub lesser-left : (a b : ℤ) → a ≤ℤ b → lesser a b ≡ a
-unfolding lesser
-lesser-left a b h = ap (λ (t : Bool). cond t a b) (test-of-le h)
-
-pub lesser-right : (a b : ℤ) → b <ℤ a → lesser a b ≡ b
-unfolding lesser
-lesser-right a b h = let e : leZ a b ≡ false = omega ints in ap (λ (t : Bool). cond t a b) e
-
 -- below both exactly when below the lesser
-pub below-lesser : (a b z : ℤ) → z <ℤ a → z <ℤ b → z <ℤ lesser a b
-unfolding lesser
+pub below-lesser : (a b z : ℤ) → z <ℤ a → z <ℤ b → z <ℤ minZ a b
 below-lesser a b z h g = by (leZ a b)
   where
     by : (t : Bool) → z <ℤ cond t a b
     by true = h
     by false = g
 
-pub lesser-below : (a b z : ℤ) → z <ℤ lesser a b → (z <ℤ a) × (z <ℤ b)
-unfolding lesser
+pub lesser-below : (a b z : ℤ) → z <ℤ minZ a b → (z <ℤ a) × (z <ℤ b)
 lesser-below a b z = by (leZ a b) refl
   where
     by : (t : Bool) → leZ a b ≡ t → z <ℤ cond t a b → (z <ℤ a) × (z <ℤ b)

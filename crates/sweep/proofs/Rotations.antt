@@ -12,32 +12,33 @@ use lib.Dec.{leb, ltb}
 use borrow.Author.Tests.{le-leb, lt-ltb, leb-true, ltb-true}
 use Rattle.integers.proofs.Booleans.{fails, and-true}
 use Rattle.integers.proofs.Below.{below-or}
-use Rattle.sweep.specs.Rotation.{axes, rotation}
+use Rattle.points.specs.Area.{coordinates}
+use Rattle.sweep.specs.Rotation.{rotation}
 use Rattle.sweep.specs.Theorem.{Order}
 
 -- the tests of the definition
-rotation-in : {k d j : ℕ} → k ≤ axes → d < k → j < k → rotation k d j ≡ (j + d) % k
+rotation-in : {k d j : ℕ} → k ≤ coordinates → d < k → j < k → rotation k d j ≡ (j + d) % k
 unfolding rotation
-rotation-in {k} {d} {j} a h g = rw (le-leb k axes a, lt-ltb d k h, lt-ltb j k g)
+rotation-in {k} {d} {j} a h g = rw (le-leb k coordinates a, lt-ltb d k h, lt-ltb j k g)
 
-pub rotation-out : (k d j : ℕ) → ((k ≤ axes) × (d < k) × (j < k) → ⊥) → rotation k d j ≡ 0
+pub rotation-out : (k d j : ℕ) → ((k ≤ coordinates) × (d < k) × (j < k) → ⊥) → rotation k d j ≡ 0
 unfolding rotation
 rotation-out k d j f = ap (λ (t : Bool). cond t ((j + d) % k) 0) (fails (λ e.
-    let w : ((leb k axes && ltb d k) ≡ true) × (ltb j k ≡ true) = and-true e in
-    let u : (leb k axes ≡ true) × (ltb d k ≡ true) = and-true (w .0) in
-    f (leb-true k axes (u .0), ltb-true d k (u .1), ltb-true j k (w .1))))
+    let w : ((leb k coordinates && ltb d k) ≡ true) × (ltb j k ≡ true) = and-true e in
+    let u : (leb k coordinates ≡ true) × (ltb d k ≡ true) = and-true (w .0) in
+    f (leb-true k coordinates (u .0), ltb-true d k (u .1), ltb-true j k (w .1))))
 
-pub rotation-below : (k d j : ℕ) → rotation k d j < axes
-rotation-below k d j = by (decLe k axes) (decLt d k) (decLt j k)
+pub rotation-below : (k d j : ℕ) → rotation k d j < coordinates
+rotation-below k d j = by (decLe k coordinates) (decLt d k) (decLt j k)
   where
-    by : Dec (k ≤ axes) → Dec (d < k) → Dec (j < k) → rotation k d j < axes
+    by : Dec (k ≤ coordinates) → Dec (d < k) → Dec (j < k) → rotation k d j < coordinates
     by (yes a) (yes h) (yes g) = omega (arith, rotation-in a h g, mod-lt (j + d) {m = k} (omega arith))
     by (no a) h g = omega (arith, rotation-out k d j (λ w. a (w .0)))
     by (yes a) (no h) g = omega (arith, rotation-out k d j (λ w. h (w .1)))
     by (yes a) (yes h) (no g) = omega (arith, rotation-out k d j (λ w. g (w .2)))
 
 -- ---- the rotation of dimension d is an order of the k dimensions
-module _ {k d : ℕ} (a : k ≤ axes) (h : d < k) where
+module _ {k d : ℕ} (a : k ≤ coordinates) (h : d < k) where
   -- j + d, or k less where that is not below k
   pub rotation-sum : {j : ℕ} → j < k → j + d < k → rotation k d j ≡ j + d
   rotation-sum g t = rotation-in a h g ∙ mod-eq-of-lt t

@@ -13,7 +13,8 @@ use lib.Seq.{getD-set-same, getD-set-other}
 use Rattle.integers.specs.Words.{word}
 use Rattle.integers.proofs.Below.{same-or}
 use Rattle.integers.proofs.Ints.{ints, lin, v, _⊕_}
-use Rattle.sweep.specs.Point.{InBox, next, nexts, lesser}
+use Rattle.points.specs.Area.{minZ}
+use Rattle.sweep.specs.Point.{InBox, next, nexts}
 use Rattle.sweep.specs.declared.Sweep.{Sweep}
 use Rattle.sweep.specs.Moves.{begun, jumpedPast, placedAt}
 use Rattle.sweep.specs.Theorem.{Order}
@@ -96,11 +97,11 @@ state-begun {high} l g b = record {
 }
 
 module _ {k : ℕ} {low high : List ℤ} {s : Sweep} (t : State k low high s) (last : List ℤ) (g : k ≤ length last) where
-  pub jumped-word : (i : ℕ) → i < k → word (jumpedPast s last .jump) i ≡ lesser (word (s .jump) i) (next (word last i))
+  pub jumped-word : (i : ℕ) → i < k → word (jumpedPast s last .jump) i ≡ minZ (word (s .jump) i) (next (word last i))
   unfolding jumpedPast
   jumped-word i h =
       word-lessers (s .jump) (nexts last) i (omega (arith, t .jump-long)) (omega (arith, length-nexts last))
-      ∙ ap (lesser (word (s .jump) i)) (word-nexts last i (omega arith))
+      ∙ ap (minZ (word (s .jump) i)) (word-nexts last i (omega arith))
 
   -- the candidate is not past the last point
   pub state-jumped : ((i : ℕ) → i < k → word (s .candidate) i ≤ℤ word last i) → State k low high (jumpedPast s last)

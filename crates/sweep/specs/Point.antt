@@ -1,13 +1,14 @@
--- Points, boxes of points, and the operations on a point's words: one past each, the lesser of two, the mirror image.
+-- Points, boxes of points, and the operations on a point's words: one past each, the lesser words of two, the mirror image.
 -- A point is a list of words; which of them a statement reads is said by the number k of dimensions.
 -- Assumes nothing.
-use mathlib.Core.Bool.{Bool, true, false, cond}
+use mathlib.Core.Bool.{Bool, true, false}
 use mathlib.Core.List.{List, map, zipWith}
 use Prim.Native.Nat.{ℕ, _<_}
 use lib.IntN.{ℤ, pos, negℤ, _+ℤ_}
-use lib.Signed.{_≤ℤ_, leZ}
+use lib.Signed.{_≤ℤ_}
 use Rattle.integers.specs.Integer.{Within}
 use Rattle.integers.specs.Words.{word}
+use Rattle.points.specs.Area.{minZ}
 
 -- p lies from low to high, both included, in the first k dimensions
 pub record InBox (k : ℕ) (low high p : List ℤ) : Type 0 where
@@ -29,12 +30,9 @@ next z = z +ℤ pos 1
 unfoldable pub nexts : List ℤ → List ℤ
 nexts p = map next p
 
--- the lesser of two numbers, and the lesser words of two points
-unfoldable pub lesser : ℤ → ℤ → ℤ
-lesser a b = cond (leZ a b) a b
-
+-- the lesser words of two points
 unfoldable pub lessers : List ℤ → List ℤ → List ℤ
-lessers p q = zipWith lesser p q
+lessers p q = zipWith minZ p q
 
 -- ---- the mirror: where flip is set, a number, a point and a box are replaced by their negatives
 

@@ -3,11 +3,8 @@
 use mathlib.Core.Bool.{cond, _&&_}
 use Prim.Native.Nat.{ℕ, _+_, _%_}
 use lib.Dec.{leb, ltb}
+use Rattle.points.specs.Area.{coordinates}
 
--- how many words a point has: AXES of src/lib.rt
-abbrev pub axes : ℕ
-axes = 4
-
--- the dimension at position j of the sweep of dimension d, for k from 1 to axes and d and j below k; 0 elsewhere
+-- the dimension at position j of the sweep of dimension d, for k from 1 to the most coordinates of a point and d and j below k; 0 elsewhere
 unfoldable pub rotation : ℕ → ℕ → ℕ → ℕ
-rotation k d j = cond (leb k axes && ltb d k && ltb j k) ((j + d) % k) 0
+rotation k d j = cond (leb k coordinates && ltb d k && ltb j k) ((j + d) % k) 0

@@ -2,28 +2,19 @@
 // together through the points of a range, the dimension being pruned first and the others in rotation.
 // specs/Theorem.antt says what it finds; points and the mirror that serves the greatest coordinate come first.
 ghost use mathlib.Core.Path.{_≡_};
-ghost use Rattle.sweep.specs.Point.{Near, lesser, nexts, mirror, turned, turnedEnd};
+ghost use Rattle.sweep.specs.Point.{Near, nexts, mirror, turned, turnedEnd};
 ghost use Rattle.sweep.specs.Rotation.{rotation};
 ghost use Rattle.sweep.specs.Moves.{begun, jumpedPast, advance};
-
-// How many words a point has.
-pub const AXES: usize = 4;
-
-// The lesser of two words.
-pub fn lesser_word(a: i64, b: i64) -> i64
-    ensures { λ r. ⌜ r ≡ lesser a b ⌝ }
-{
-    if a <= b { a } else { b }
-}
+use points::COORDINATES;
 
 // One past each word.
-fn next_words(p: [i64; AXES]) -> [i64; AXES]
+fn next_words(p: [i64; COORDINATES]) -> [i64; COORDINATES]
     requires { ⌜ Near p ⌝ }
     ensures { λ r. ⌜ r ≡ nexts p ⌝ }
 {
     let mut q = p;
     let mut e = 0;
-    while e < AXES {
+    while e < COORDINATES {
         q[e] = p[e] + 1;
         e += 1;
     }
@@ -31,13 +22,13 @@ fn next_words(p: [i64; AXES]) -> [i64; AXES]
 }
 
 // The negative of each word.
-pub fn mirrored(p: [i64; AXES]) -> [i64; AXES]
+pub fn mirrored(p: [i64; COORDINATES]) -> [i64; COORDINATES]
     requires { ⌜ Near p ⌝ }
     ensures { λ r. ⌜ r ≡ mirror p ⌝ }
 {
     let mut q = p;
     let mut e = 0;
-    while e < AXES {
+    while e < COORDINATES {
         q[e] = 0 - p[e];
         e += 1;
     }
@@ -45,7 +36,7 @@ pub fn mirrored(p: [i64; AXES]) -> [i64; AXES]
 }
 
 // A point, or its mirror image: the greatest coordinate is the least of the mirrored points.
-pub fn turned_point(p: [i64; AXES], flip: bool) -> [i64; AXES]
+pub fn turned_point(p: [i64; COORDINATES], flip: bool) -> [i64; COORDINATES]
     requires { ⌜ Near p ⌝ }
     ensures { λ r. ⌜ r ≡ turned flip p ⌝ }
 {
@@ -53,7 +44,11 @@ pub fn turned_point(p: [i64; AXES], flip: bool) -> [i64; AXES]
 }
 
 // The high end of the turned box from low to high; with low and high exchanged, its low end.
-pub fn turned_end(low: [i64; AXES], high: [i64; AXES], flip: bool) -> [i64; AXES]
+pub fn turned_end(
+    low: [i64; COORDINATES],
+    high: [i64; COORDINATES],
+    flip: bool,
+) -> [i64; COORDINATES]
     requires { ⌜ Near low ⌝ }
     ensures { λ r. ⌜ r ≡ turnedEnd flip low high ⌝ }
 {
@@ -64,7 +59,7 @@ pub fn turned_end(low: [i64; AXES], high: [i64; AXES], flip: bool) -> [i64; AXES
 pub fn rotated(k: usize, d: usize, j: usize) -> usize
     ensures { λ r. ⌜ r ≡ rotation k d j ⌝ }
 {
-    if k <= AXES && d < k && j < k {
+    if k <= COORDINATES && d < k && j < k {
         let sum = j + d;
         if sum < k { sum } else { sum - k }
     } else {
@@ -74,14 +69,14 @@ pub fn rotated(k: usize, d: usize, j: usize) -> usize
 
 // A candidate point and a jump point; live is false once no candidate is left.
 pub struct Sweep {
-    pub candidate: [i64; AXES],
-    pub jump: [i64; AXES],
+    pub candidate: [i64; COORDINATES],
+    pub jump: [i64; COORDINATES],
     pub live: bool,
 }
 
 impl Sweep {
     // The sweep of the points from low to high, both included.
-    pub fn new(low: [i64; AXES], high: [i64; AXES]) -> Self
+    pub fn new(low: [i64; COORDINATES], high: [i64; COORDINATES]) -> Self
         requires { ⌜ Near high ⌝ }
         ensures { λ r. ⌜ r ≡ begun low high ⌝ }
     {
@@ -94,13 +89,13 @@ impl Sweep {
     }
 
     // The jump point no further than one past the last point of a forbidden region.
-    pub fn jumped(mut self, last: [i64; AXES]) -> Self
+    pub fn jumped(mut self, last: [i64; COORDINATES]) -> Self
         requires { ⌜ Near last ⌝ }
         ensures { λ r. ⌜ r ≡ jumpedPast self last ⌝ }
     {
         let mut e = 0;
-        while e < AXES {
-            self.jump[e] = lesser_word(self.jump[e], last[e] + 1);
+        while e < COORDINATES {
+            self.jump[e] = points::lesser(self.jump[e], last[e] + 1);
             e += 1;
         }
         self
@@ -108,7 +103,13 @@ impl Sweep {
 
     // The next candidate, from the last position of the rotation down: the jump point's word where it lies in the range, else the
     // position starts again. Once no position is left the sweep is live no more.
-    pub fn advanced(mut self, k: usize, d: usize, low: [i64; AXES], high: [i64; AXES]) -> Self
+    pub fn advanced(
+        mut self,
+        k: usize,
+        d: usize,
+        low: [i64; COORDINATES],
+        high: [i64; COORDINATES],
+    ) -> Self
         requires { ⌜ Near high ⌝ }
         ensures { λ r. ⌜ r ≡ advance (rotation k d) low high k self ⌝ }
     {

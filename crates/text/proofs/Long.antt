@@ -18,7 +18,7 @@ use Rattle.integers.proofs.Booleans.{decide, clash, not-false, passes, and-true
 use Rattle.integers.proofs.Below.{below-or}
 use Rattle.integers.proofs.Ints.{ints, true-within}
 use Rattle.integers.proofs.Ranges.{nat-from}
-use Rattle.sheet.specs.Layout.{Lent, lentOf, dims, axes, rowLen, rows}
+use Rattle.sheet.specs.Layout.{dims, axes, rowLen, rows}
 use Rattle.sheet.specs.Refusal.{_when_, _else_, badHead, badCounts, badBlockLength, badTableLength, refusal}
 use Rattle.sheet.specs.Text.{split, line, linesOf, Sheet, ended, records, afterK, readLines, readText}
 use Rattle.sheet.proofs.Accepted.{passed, rows-by}
@@ -27,64 +27,64 @@ use Rattle.line.proofs.Lines.{lines-length}
 
 -- ---- long tables
 
-module _ (lent : Lent) where
-  few-axes : badHead lent ≡ false → axes lent ≤ 4
+module _ (block : List ℤ) where
+  few-axes : badHead block ≡ false → axes block ≤ 4
   unfolding badHead axes dims
-  few-axes h = nat-from (word (lent .block) 0) (not-false (or-false {a = ltb (length (lent .block)) 3} h .1)) .1
+  few-axes h = nat-from (word block 0) (not-false (or-false {a = ltb (length block) 3} h .1)) .1
 
-  bad-long : (t : List ℤ) → badHead lent ≡ false → 288 < length t → badTableLength lent t ≡ true
+  bad-long : (t : List ℤ) → badHead block ≡ false → 288 < length t → badTableLength block t ≡ true
   unfolding rowLen
   bad-long t h l =
       passes (λ e.
-      let w = rows-by lent t e in
+      let w = rows-by block t e in
       let k = few-axes h in
-      let m : rows lent t * (1 + 2 * axes lent) ≤ 32 * (1 + 2 * axes lent) = mul-le-mul-right (1 + 2 * axes lent) (w .few-rows) in
+      let m : rows block t * (1 + 2 * axes block) ≤ 32 * (1 + 2 * axes block) = mul-le-mul-right (1 + 2 * axes block) (w .few-rows) in
       omega (arith, w .long))
 
-  bad-empty : badTableLength lent [] ≡ true
+  bad-empty : badTableLength block [] ≡ true
   unfolding rows
   bad-empty =
       passes (λ e.
-      let w = rows-by lent [] e in
-      let none : 0 / rowLen lent ≡ 0 = zero-div (rowLen lent) in
+      let w = rows-by block [] e in
+      let none : 0 / rowLen block ≡ 0 = zero-div (rowLen block) in
       omega (arith, w .some-rows))
 
   -- check 5 applies, if none before it does
-  refusal-table : (t : List ℤ) → badTableLength lent t ≡ true
-      → refusal lent t ≡ (2 when badHead lent else 3 when badCounts lent else 4 when badBlockLength lent else 5)
+  refusal-table : (t : List ℤ) → badTableLength block t ≡ true
+      → refusal block t ≡ (2 when badHead block else 3 when badCounts block else 4 when badBlockLength block else 5)
   refusal-table t e =
-      refusal-from2 lent t
-      ∙ ap (λ (g : ℕ). 2 when badHead lent else 3 when badCounts lent else 4 when badBlockLength lent else g) (applies 4 (from6 lent t) e)
+      refusal-from2 block t
+      ∙ ap (λ (g : ℕ). 2 when badHead block else 3 when badCounts block else 4 when badBlockLength block else g) (applies 4 (from6 block t) e)
 
-  pub refusal-long : (t : List ℤ) → 288 < length t → refusal lent t ≡ refusal lent []
+  pub refusal-long : (t : List ℤ) → 288 < length t → refusal block t ≡ refusal block []
   refusal-long t l =
       ⊎-elim
-      (λ (h : badHead lent ≡ true). refusal-from2 lent t ∙ applies 1 _ h ∙ sym (refusal-from2 lent [] ∙ applies 1 _ h))
-      (λ (h : badHead lent ≡ false). refusal-table t (bad-long t h l) ∙ sym (refusal-table [] bad-empty))
-      (decide (badHead lent))
+      (λ (h : badHead block ≡ true). refusal-from2 block t ∙ applies 1 _ h ∙ sym (refusal-from2 block [] ∙ applies 1 _ h))
+      (λ (h : badHead block ≡ false). refusal-table t (bad-long t h l) ∙ sym (refusal-table [] bad-empty))
+      (decide (badHead block))
 
-  pub refusal-empty : 0 < refusal lent []
+  pub refusal-empty : 0 < refusal block []
   refusal-empty =
       ⊎-elim
-      (λ (h : 0 < refusal lent []). h)
-      (λ (h : refusal lent [] ≤ 0).
-      let none : refusal lent [] ≡ 0 = omega arith in
-      clash bad-empty (passed lent [] none .table-length))
-      (below-or 0 (refusal lent []))
+      (λ (h : 0 < refusal block []). h)
+      (λ (h : refusal block [] ≤ 0).
+      let none : refusal block [] ≡ 0 = omega arith in
+      clash bad-empty (passed block [] none .table-length))
+      (below-or 0 (refusal block []))
 
 -- ---- long blocks: a block of a text has k from 1 to 4 and lines of the right length, so only its counts can make it long
 
 abbrev LongBlock : Sheet → Type 0
-LongBlock w = 1507 < length (w .block) → (t : List ℤ) → refusal (lentOf (w .block)) t ≡ 3
+LongBlock w = 1507 < length (w .block) → (t : List ℤ) → refusal (w .block) t ≡ 3
 
-head-in : (k n r : ℕ) (ws : List ℤ) → 1 ≤ k → k ≤ 4 → badHead (lentOf (pos k ∷ pos n ∷ pos r ∷ ws)) ≡ false
+head-in : (k n r : ℕ) (ws : List ℤ) → 1 ≤ k → k ≤ 4 → badHead (pos k ∷ pos n ∷ pos r ∷ ws) ≡ false
 unfolding badHead
 head-in k n r ws h g =
     let long : 3 ≤ length (pos k ∷ pos n ∷ pos r ∷ ws) = omega arith in
     false-or (le-ltb _ 3 long) (ap not (true-within {a = pos 1} {b = pos 4} {z = pos k} (omega ints) (omega ints)))
 
 counts-out : (k n r : ℕ) (ws : List ℤ) → k ≤ 4 → length ws ≡ n * (1 + 2 * k) + r * (3 + 2 * k) → 1504 < length ws
-    → badCounts (lentOf (pos k ∷ pos n ∷ pos r ∷ ws)) ≡ true
+    → badCounts (pos k ∷ pos n ∷ pos r ∷ ws) ≡ true
 unfolding badCounts
 counts-out k n r ws h e l =
     passes (λ f.
@@ -112,7 +112,7 @@ records-long k ls w h g e =
     let block = pos k ∷ pos (bs .count) ∷ pos (rs .count) ∷ ws in
     subst LongBlock (ended-some (os .rest) (record { block = block; table = os .words }) w e)
     (λ l t.
-    refusal-from2 (lentOf block) t
+    refusal-from2 (block) t
     ∙ past 2 _ (head-in k (bs .count) (rs .count) ws h g)
     ∙ applies 2 _ (counts-out k (bs .count) (rs .count) ws g size (omega arith)))
 

@@ -8,7 +8,6 @@ use native.Mathlib.Omega.{arith}
 use lib.IntN.{ℤ, pos}
 use lib.ListN.{length, drop, take, replicate}
 use lib.Seq.{sets-eq}
-use Rattle.sheet.specs.Layout.{lentOf}
 use Rattle.sheet.specs.Refusal.{refusal}
 use Rattle.sheet.specs.Text.{Sheet, readText, refusalRead, refusalText, sheetUnless, sheetRead, padded, reading}
 use Rattle.line.specs.Answers.{zeros, placed}
@@ -52,7 +51,7 @@ unfolding readingOf refusedBy reading sheetRead
 reading-refused text {g} e h =
     rw (e, refused-sheet (readText text) h, padded-none 1507, padded-none 288)
 
-reading-accepted : (text : List ℕ) (w : Sheet) {b t : List ℤ} {n m : ℕ} → readText text ≡ some w → refusal (lentOf (w .block)) (w .table) ≡ 0
+reading-accepted : (text : List ℕ) (w : Sheet) {b t : List ℤ} {n m : ℕ} → readText text ≡ some w → refusal (w .block) (w .table) ≡ 0
     → b ≡ padded 1507 (w .block) → n ≡ length (w .block) → t ≡ padded 288 (w .table) → m ≡ length (w .table)
     → record { refusal = pos 0; block = b; «block_len» = n; table = t; «table_len» = m } ≡ readingOf (reading text)
 unfolding readingOf reading sheetRead sheetUnless refusalText refusalRead
@@ -89,7 +88,7 @@ refusal-none : (text : List ℕ) → readText text ≡ none → refusalText text
 unfolding refusalText refusalRead
 refusal-none text e = rw e
 
-refusal-some : (text : List ℕ) (w : Sheet) → readText text ≡ some w → refusalText text ≡ refusal (lentOf (w .block)) (w .table)
+refusal-some : (text : List ℕ) (w : Sheet) → readText text ≡ some w → refusalText text ≡ refusal (w .block) (w .table)
 unfolding refusalText refusalRead
 refusal-some text w e = rw e
 
@@ -108,7 +107,7 @@ module _ (text : List ℕ) (p : Parsed) (e : p ≡ parsedOf (readText text)) whe
     words : Formed (readText text) p
     words = formed (readText text) p e h
 
-    refusal-is : refusalText text ≡ refusal (lentOf (words .sheet .block)) (words .sheet .table)
+    refusal-is : refusalText text ≡ refusal (words .sheet .block) (words .sheet .table)
     refusal-is = refusal-some text (words .sheet) (words .is)
 
     pub read-long : 1507 < p .«block_len» → refusedBy (pos 3) ≡ readingOf (reading text)
@@ -121,26 +120,26 @@ module _ (text : List ℕ) (p : Parsed) (e : p ≡ parsedOf (readText text)) whe
       block-back = ap (take (p .«block_len»)) (words .block) ∙ take-placed 1507 (words .sheet .block) (words .blockLen) l
 
       -- g is what the code's check has found
-      pub read-rows : 288 < p .«table_len» → {g : ℤ} → g ≡ pos (refusal (lentOf (take (p .«block_len») (p .block))) [])
+      pub read-rows : 288 < p .«table_len» → {g : ℤ} → g ≡ pos (refusal ((take (p .«block_len») (p .block))) [])
           → refusedBy g ≡ readingOf (reading text)
       read-rows m {g} f =
-          let lent = lentOf (words .sheet .block) in
+          let block = words .sheet .block in
           let long : 288 < length (words .sheet .table) = (let k = words .tableLen in omega arith) in
-          ap refusedBy (f ∙ ap (λ (b : List ℤ). pos (refusal (lentOf b) [])) block-back)
-          ∙ reading-refused text (refusal-is ∙ refusal-long lent (words .sheet .table) long) (refusal-empty lent)
+          ap refusedBy (f ∙ ap (λ (b : List ℤ). pos (refusal (b) [])) block-back)
+          ∙ reading-refused text (refusal-is ∙ refusal-long block (words .sheet .table) long) (refusal-empty block)
 
       module _ (m : p .«table_len» ≤ 288) where
         table-back : take (p .«table_len») (p .table) ≡ words .sheet .table
         table-back = ap (take (p .«table_len»)) (words .table) ∙ take-placed 288 (words .sheet .table) (words .tableLen) m
 
         abbrev found : ℕ
-        found = refusal (lentOf (take (p .«block_len») (p .block))) (take (p .«table_len») (p .table))
+        found = refusal ((take (p .«block_len») (p .block))) (take (p .«table_len») (p .table))
 
         same : refusalText text ≡ found
         same =
             refusal-is
-            ∙ ap (λ (b : List ℤ). refusal (lentOf b) (words .sheet .table)) (sym block-back)
-            ∙ ap (refusal (lentOf (take (p .«block_len») (p .block)))) (sym table-back)
+            ∙ ap (λ (b : List ℤ). refusal (b) (words .sheet .table)) (sym block-back)
+            ∙ ap (refusal ((take (p .«block_len») (p .block)))) (sym table-back)
 
         pub read-refused : {g : ℤ} → g ≡ pos found → 0 < found → refusedBy g ≡ readingOf (reading text)
         read-refused {g} f k = ap refusedBy f ∙ reading-refused text same k

@@ -8,51 +8,51 @@ use native.Mathlib.Omega.{arith}
 use lib.IntN.{ℤ}
 use lib.ListN.{length}
 use Rattle.integers.proofs.Ranges.{record-ends}
-use Rattle.sheet.specs.Layout.{Lent, dims, axes, boxes, rules, boxLen, ruleLen, rowLen, blockLen, boxAt, ruleAt, rowAt, rows}
+use Rattle.sheet.specs.Layout.{dims, axes, boxes, rules, boxLen, ruleLen, rowLen, blockLen, boxAt, ruleAt, rowAt, rows}
 use Rattle.sheet.specs.Accepted.{Head, Rows}
 use Rattle.words.specs.declared.Place.{Place}
 use Rattle.words.specs.Places.{BoxPlace, RulePlace, RowPlace}
 
 -- ---- the layout's positions, written out
-module _ (lent : Lent) where
-  pub box-at : (b : ℕ) → 3 + b * (1 + 2 * dims lent) ≡ boxAt lent b
+module _ (block : List ℤ) where
+  pub box-at : (b : ℕ) → 3 + b * (1 + 2 * dims block) ≡ boxAt block b
   unfolding boxAt boxLen
   box-at b = refl
 
-  pub rule-at : (r : ℕ) → 3 + boxes lent * (1 + 2 * dims lent) + r * (3 + 2 * dims lent) ≡ ruleAt lent r
+  pub rule-at : (r : ℕ) → 3 + boxes block * (1 + 2 * dims block) + r * (3 + 2 * dims block) ≡ ruleAt block r
   unfolding ruleAt boxLen ruleLen
   rule-at r = refl
 
-  pub row-at : (i : ℕ) → 1 ≤ i → (i - 1) * rowLen lent ≡ rowAt lent i
+  pub row-at : (i : ℕ) → 1 ≤ i → (i - 1) * rowLen block ≡ rowAt block i
   unfolding rowAt
   row-at zero h = absurd (not-suc-le-zero h)
-  row-at (suc m) h = let e : suc m - 1 ≡ m = omega arith in ap (λ (n : ℕ). n * rowLen lent) e
+  row-at (suc m) h = let e : suc m - 1 ≡ m = omega arith in ap (λ (n : ℕ). n * rowLen block) e
 
 -- ---- a record ends before its run does
-module _ {lent : Lent} (h : Head lent) where
-  pub head-ends : 3 ≤ length (lent .block)
+module _ {block : List ℤ} (h : Head block) where
+  pub head-ends : 3 ≤ length block
   unfolding blockLen
   head-ends = omega (arith, h .long)
 
-  pub box-at-ends : {b : ℕ} → b < boxes lent → boxAt lent b + (1 + 2 * dims lent) ≤ length (lent .block)
+  pub box-at-ends : {b : ℕ} → b < boxes block → boxAt block b + (1 + 2 * dims block) ≤ length block
   unfolding blockLen boxAt boxLen
-  box-at-ends {b} l = omega (arith, h .long, record-ends (boxLen lent) l)
+  box-at-ends {b} l = omega (arith, h .long, record-ends (boxLen block) l)
 
-  pub rule-at-ends : {r : ℕ} → r < rules lent → ruleAt lent r + (3 + 2 * dims lent) ≤ length (lent .block)
+  pub rule-at-ends : {r : ℕ} → r < rules block → ruleAt block r + (3 + 2 * dims block) ≤ length block
   unfolding blockLen ruleAt ruleLen
-  rule-at-ends {r} l = omega (arith, h .long, record-ends (ruleLen lent) l)
+  rule-at-ends {r} l = omega (arith, h .long, record-ends (ruleLen block) l)
 
-  pub box-ends : {x : Place} → BoxPlace lent x → x .at + (1 + 2 * dims lent) ≤ length (lent .block)
+  pub box-ends : {x : Place} → BoxPlace block x → x .at + (1 + 2 * dims block) ≤ length block
   box-ends p = omega (arith, p .stands, box-at-ends (p .below))
 
-  pub rule-ends : {x : Place} → RulePlace lent x → x .at + (3 + 2 * dims lent) ≤ length (lent .block)
+  pub rule-ends : {x : Place} → RulePlace block x → x .at + (3 + 2 * dims block) ≤ length block
   rule-ends p = omega (arith, p .stands, rule-at-ends (p .below))
 
-module _ {lent : Lent} {t : List ℤ} (h : Rows lent t) where
-  pub row-at-ends : {i : ℕ} → 1 ≤ i → i ≤ rows lent t → rowAt lent i + (1 + 2 * axes lent) ≤ length t
+module _ {block : List ℤ} {t : List ℤ} (h : Rows block t) where
+  pub row-at-ends : {i : ℕ} → 1 ≤ i → i ≤ rows block t → rowAt block i + (1 + 2 * axes block) ≤ length t
   unfolding rowAt rowLen
   row-at-ends {i = zero} f u = absurd (not-suc-le-zero f)
-  row-at-ends {i = suc m} f u = omega (arith, h .long, record-ends (rowLen lent) u)
+  row-at-ends {i = suc m} f u = omega (arith, h .long, record-ends (rowLen block) u)
 
-  pub row-ends : {x : Place} → RowPlace lent t x → x .at + (1 + 2 * axes lent) ≤ length t
+  pub row-ends : {x : Place} → RowPlace block t x → x .at + (1 + 2 * axes block) ≤ length t
   row-ends p = omega (arith, p .stands, row-at-ends (p .from) (p .upto))

@@ -10,10 +10,10 @@ use Rattle.integers.proofs.Booleans.{fails}
 use Rattle.integers.proofs.Ints.{ints}
 use Rattle.integers.proofs.Ranges.{pos-nat}
 use Rattle.integers.proofs.Sets.{small-set}
-use Rattle.sheet.specs.Layout.{Lent, shapeSet, hasShape}
+use Rattle.sheet.specs.Layout.{shapeSet, hasShape}
 use Rattle.sheet.specs.Accepted.{Count}
 
-pub none-past : (lent : Lent) (t : List ℤ) (i : ℕ) {s m : ℕ} → Count (shapeSet lent t i) → nat (shapeSet lent t i) < 2 ^ s → s < m
-    → hasShape lent t i m ≡ false
+pub none-past : (block : List ℤ) (t : List ℤ) (i : ℕ) {s m : ℕ} → Count (shapeSet block t i) → nat (shapeSet block t i) < 2 ^ s → s < m
+    → hasShape block t i m ≡ false
 unfolding hasShape
-none-past lent t i {s} {m} c h k = fails (λ e. absurd (omega (arith, k, small-set {n = s} {s = m} (omega (ints, pos-nat (c .from), h)) e)))
+none-past block t i {s} {m} c h k = fails (λ e. absurd (omega (arith, k, small-set {n = s} {s = m} (omega (ints, pos-nat (c .from), h)) e)))

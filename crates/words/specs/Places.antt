@@ -3,18 +3,18 @@ use mathlib.Core.Path.{_≡_}
 use mathlib.Core.List.{List}
 use Prim.Native.Nat.{ℕ, _≤_, _<_}
 use lib.IntN.{ℤ}
-use Rattle.sheet.specs.Layout.{Lent, boxes, rules, boxAt, ruleAt, rowAt, rows}
+use Rattle.sheet.specs.Layout.{boxes, rules, boxAt, ruleAt, rowAt, rows}
 use Rattle.words.specs.declared.Place.{Place}
 
-pub record BoxPlace (lent : Lent) (x : Place) : Type 0 where
-  pub below : x .number < boxes lent
-  pub stands : x .at ≡ boxAt lent (x .number)
+pub record BoxPlace (block : List ℤ) (x : Place) : Type 0 where
+  pub below : x .number < boxes block
+  pub stands : x .at ≡ boxAt block (x .number)
 
-pub record RulePlace (lent : Lent) (x : Place) : Type 0 where
-  pub below : x .number < rules lent
-  pub stands : x .at ≡ ruleAt lent (x .number)
+pub record RulePlace (block : List ℤ) (x : Place) : Type 0 where
+  pub below : x .number < rules block
+  pub stands : x .at ≡ ruleAt block (x .number)
 
-pub record RowPlace (lent : Lent) (table : List ℤ) (x : Place) : Type 0 where
+pub record RowPlace (block : List ℤ) (table : List ℤ) (x : Place) : Type 0 where
   pub from : 1 ≤ x .number
-  pub upto : x .number ≤ rows lent table
-  pub stands : x .at ≡ rowAt lent (x .number)
+  pub upto : x .number ≤ rows block table
+  pub stands : x .at ≡ rowAt block (x .number)

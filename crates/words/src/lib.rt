@@ -4,13 +4,13 @@
 // the range of a word only where it is cast.
 ghost use mathlib.Core.Path.{_≡_};
 ghost use mathlib.Core.Bool.{true};
-ghost use Prim.Native.Nat.{_^_, _<_, _≤_};
+ghost use Prim.Native.Nat.{_+_, _^_, _<_, _≤_};
 ghost use lib.ListN.{length};
 ghost use lib.IntN.{pos};
 ghost use Rattle.integers.specs.Integer.{nat, eqZ, within};
 ghost use Rattle.integers.specs.Bits.{bit};
 ghost use Rattle.integers.specs.Words.{word};
-ghost use Rattle.sheet.specs.Layout.{lentOf, dims, axes, boxes, rules, shapeOf, isOf, offset, size};
+ghost use Rattle.sheet.specs.Layout.{dims, axes, boxes, rules, shapeOf, isOf, offset, size};
 ghost use Rattle.sheet.specs.Layout.{kind, isNonOverlap, isContainment, dimSet, rowSet, namesDim, namesRow, roomLow, roomHigh};
 ghost use Rattle.sheet.specs.Layout.{rowLen, rows, shapeSet, hasShape, low, high};
 ghost use Rattle.sheet.specs.Accepted.{Count, Head, Rows};
@@ -77,6 +77,24 @@ pub fn set_at(words: &[i64], at: usize) -> u32
     w as u32
 }
 
+// ---- sets of numbers from 0 on
+
+// Whether the set holds q.
+pub fn has_member(set: u32, q: usize) -> bool
+    requires { ⌜ q < 32 ⌝ }
+    ensures { λ r. ⌜ r ≡ bit (pos set) q ⌝ }
+{
+    (set >> q) % 2 == 1
+}
+
+// One member more in a set whose members are all lesser.
+pub fn with_member(set: u32, q: usize) -> u32
+    requires { ⌜ (q < 32) × (set < 2 ^ q) ⌝ }
+    ensures { λ r. ⌜ r ≡ set + 2 ^ q ⌝ }
+{
+    set + (1 << q)
+}
+
 // Whether every member of the set is below s.
 pub fn is_below(set: u32, s: usize) -> bool
     requires { ⌜ s < 32 ⌝ }
@@ -88,37 +106,37 @@ pub fn is_below(set: u32, s: usize) -> bool
 // ---- the block
 
 pub fn dims_of(block: &[i64]) -> usize
-    requires { ⌜ Head (lentOf (now block)) ⌝ }
-    ensures { λ r. ⌜ r ≡ dims (lentOf (now (block .entry))) ⌝ }
+    requires { ⌜ Head (now block) ⌝ }
+    ensures { λ r. ⌜ r ≡ dims (now (block .entry)) ⌝ }
 {
     count_at(block, 0)
 }
 
 // How many ranges a row has, and coordinates a point.
 pub fn axes_of(block: &[i64]) -> usize
-    requires { ⌜ Head (lentOf (now block)) ⌝ }
-    ensures { λ r. ⌜ r ≡ axes (lentOf (now (block .entry))) ⌝ }
+    requires { ⌜ Head (now block) ⌝ }
+    ensures { λ r. ⌜ r ≡ axes (now (block .entry)) ⌝ }
 {
     dims_of(block)
 }
 
 pub fn boxes_of(block: &[i64]) -> usize
-    requires { ⌜ Head (lentOf (now block)) ⌝ }
-    ensures { λ r. ⌜ r ≡ boxes (lentOf (now (block .entry))) ⌝ }
+    requires { ⌜ Head (now block) ⌝ }
+    ensures { λ r. ⌜ r ≡ boxes (now (block .entry)) ⌝ }
 {
     count_at(block, 1)
 }
 
 pub fn rules_of(block: &[i64]) -> usize
-    requires { ⌜ Head (lentOf (now block)) ⌝ }
-    ensures { λ r. ⌜ r ≡ rules (lentOf (now (block .entry))) ⌝ }
+    requires { ⌜ Head (now block) ⌝ }
+    ensures { λ r. ⌜ r ≡ rules (now (block .entry)) ⌝ }
 {
     count_at(block, 2)
 }
 
 pub fn box_place(block: &[i64], b: usize) -> Place
-    requires { ⌜ Head (lentOf (now block)) × (b < boxes (lentOf (now block))) ⌝ }
-    ensures { λ r. ⌜ BoxPlace (lentOf (now (block .entry))) r × (r .number ≡ b) ⌝ }
+    requires { ⌜ Head (now block) × (b < boxes (now block)) ⌝ }
+    ensures { λ r. ⌜ BoxPlace (now (block .entry)) r × (r .number ≡ b) ⌝ }
 {
     let k = dims_of(block);
     Place {
@@ -128,8 +146,8 @@ pub fn box_place(block: &[i64], b: usize) -> Place
 }
 
 pub fn rule_place(block: &[i64], r: usize) -> Place
-    requires { ⌜ Head (lentOf (now block)) × (r < rules (lentOf (now block))) ⌝ }
-    ensures { λ x. ⌜ RulePlace (lentOf (now (block .entry))) x × (x .number ≡ r) ⌝ }
+    requires { ⌜ Head (now block) × (r < rules (now block)) ⌝ }
+    ensures { λ x. ⌜ RulePlace (now (block .entry)) x × (x .number ≡ r) ⌝ }
 {
     let k = dims_of(block);
     let n = boxes_of(block);
@@ -142,8 +160,8 @@ pub fn rule_place(block: &[i64], r: usize) -> Place
 // ---- a box
 
 pub fn shape_of(block: &[i64], b: Place) -> i64
-    requires { ⌜ Head (lentOf (now block)) × BoxPlace (lentOf (now block)) b ⌝ }
-    ensures { λ r. ⌜ r ≡ shapeOf (lentOf (now (block .entry))) (b .number) ⌝ }
+    requires { ⌜ Head (now block) × BoxPlace (now block) b ⌝ }
+    ensures { λ r. ⌜ r ≡ shapeOf (now (block .entry)) (b .number) ⌝ }
 {
     let at = b.at;
     word_at(block, at)
@@ -151,8 +169,8 @@ pub fn shape_of(block: &[i64], b: Place) -> i64
 
 // The shape's number.
 pub fn shape_number(block: &[i64], b: Place) -> usize
-    requires { ⌜ Head (lentOf (now block)) × BoxPlace (lentOf (now block)) b × Count (shapeOf (lentOf (now block)) (b .number)) ⌝ }
-    ensures { λ r. ⌜ r ≡ nat (shapeOf (lentOf (now (block .entry))) (b .number)) ⌝ }
+    requires { ⌜ Head (now block) × BoxPlace (now block) b × Count (shapeOf (now block) (b .number)) ⌝ }
+    ensures { λ r. ⌜ r ≡ nat (shapeOf (now (block .entry)) (b .number)) ⌝ }
 {
     let at = b.at;
     count_at(block, at)
@@ -160,24 +178,24 @@ pub fn shape_number(block: &[i64], b: Place) -> usize
 
 // Whether it is one of shape s.
 pub fn box_is(block: &[i64], b: Place, s: usize) -> bool
-    requires { ⌜ Head (lentOf (now block)) × BoxPlace (lentOf (now block)) b × Count (shapeOf (lentOf (now block)) (b .number)) ⌝ }
-    ensures { λ r. ⌜ r ≡ isOf (lentOf (now (block .entry))) (b .number) s ⌝ }
+    requires { ⌜ Head (now block) × BoxPlace (now block) b × Count (shapeOf (now block) (b .number)) ⌝ }
+    ensures { λ r. ⌜ r ≡ isOf (now (block .entry)) (b .number) s ⌝ }
 {
     let at = b.at;
     word_is(block, at, s)
 }
 
 pub fn offset_of(block: &[i64], b: Place, d: usize) -> i64
-    requires { ⌜ Head (lentOf (now block)) × BoxPlace (lentOf (now block)) b × (d < dims (lentOf (now block))) ⌝ }
-    ensures { λ r. ⌜ r ≡ offset (lentOf (now (block .entry))) (b .number) d ⌝ }
+    requires { ⌜ Head (now block) × BoxPlace (now block) b × (d < dims (now block)) ⌝ }
+    ensures { λ r. ⌜ r ≡ offset (now (block .entry)) (b .number) d ⌝ }
 {
     let at = b.at;
     word_at(block, at + 1 + d)
 }
 
 pub fn size_of(block: &[i64], b: Place, d: usize) -> i64
-    requires { ⌜ Head (lentOf (now block)) × BoxPlace (lentOf (now block)) b × (d < dims (lentOf (now block))) ⌝ }
-    ensures { λ r. ⌜ r ≡ size (lentOf (now (block .entry))) (b .number) d ⌝ }
+    requires { ⌜ Head (now block) × BoxPlace (now block) b × (d < dims (now block)) ⌝ }
+    ensures { λ r. ⌜ r ≡ size (now (block .entry)) (b .number) d ⌝ }
 {
     let at = b.at;
     let k = dims_of(block);
@@ -187,74 +205,74 @@ pub fn size_of(block: &[i64], b: Place, d: usize) -> i64
 // ---- a rule
 
 pub fn kind_of(block: &[i64], r: Place) -> i64
-    requires { ⌜ Head (lentOf (now block)) × RulePlace (lentOf (now block)) r ⌝ }
-    ensures { λ x. ⌜ x ≡ kind (lentOf (now (block .entry))) (r .number) ⌝ }
+    requires { ⌜ Head (now block) × RulePlace (now block) r ⌝ }
+    ensures { λ x. ⌜ x ≡ kind (now (block .entry)) (r .number) ⌝ }
 {
     let at = r.at;
     word_at(block, at)
 }
 
 pub fn dim_set_of(block: &[i64], r: Place) -> i64
-    requires { ⌜ Head (lentOf (now block)) × RulePlace (lentOf (now block)) r ⌝ }
-    ensures { λ x. ⌜ x ≡ dimSet (lentOf (now (block .entry))) (r .number) ⌝ }
+    requires { ⌜ Head (now block) × RulePlace (now block) r ⌝ }
+    ensures { λ x. ⌜ x ≡ dimSet (now (block .entry)) (r .number) ⌝ }
 {
     let at = r.at;
     word_at(block, at + 1)
 }
 
 pub fn row_set_of(block: &[i64], r: Place) -> i64
-    requires { ⌜ Head (lentOf (now block)) × RulePlace (lentOf (now block)) r ⌝ }
-    ensures { λ x. ⌜ x ≡ rowSet (lentOf (now (block .entry))) (r .number) ⌝ }
+    requires { ⌜ Head (now block) × RulePlace (now block) r ⌝ }
+    ensures { λ x. ⌜ x ≡ rowSet (now (block .entry)) (r .number) ⌝ }
 {
     let at = r.at;
     word_at(block, at + 2)
 }
 
 pub fn is_non_overlap(block: &[i64], r: Place) -> bool
-    requires { ⌜ Head (lentOf (now block)) × RulePlace (lentOf (now block)) r × Count (kind (lentOf (now block)) (r .number)) ⌝ }
-    ensures { λ x. ⌜ x ≡ isNonOverlap (lentOf (now (block .entry))) (r .number) ⌝ }
+    requires { ⌜ Head (now block) × RulePlace (now block) r × Count (kind (now block) (r .number)) ⌝ }
+    ensures { λ x. ⌜ x ≡ isNonOverlap (now (block .entry)) (r .number) ⌝ }
 {
     let at = r.at;
     word_is(block, at, 1)
 }
 
 pub fn is_containment(block: &[i64], r: Place) -> bool
-    requires { ⌜ Head (lentOf (now block)) × RulePlace (lentOf (now block)) r × Count (kind (lentOf (now block)) (r .number)) ⌝ }
-    ensures { λ x. ⌜ x ≡ isContainment (lentOf (now (block .entry))) (r .number) ⌝ }
+    requires { ⌜ Head (now block) × RulePlace (now block) r × Count (kind (now block) (r .number)) ⌝ }
+    ensures { λ x. ⌜ x ≡ isContainment (now (block .entry)) (r .number) ⌝ }
 {
     let at = r.at;
     word_is(block, at, 2)
 }
 
 pub fn names_dim(block: &[i64], r: Place, d: usize) -> bool
-    requires { ⌜ Head (lentOf (now block)) × RulePlace (lentOf (now block)) r × Count (dimSet (lentOf (now block)) (r .number))
-        × (d < dims (lentOf (now block))) ⌝ }
-    ensures { λ x. ⌜ x ≡ namesDim (lentOf (now (block .entry))) (r .number) d ⌝ }
+    requires { ⌜ Head (now block) × RulePlace (now block) r × Count (dimSet (now block) (r .number))
+        × (d < dims (now block)) ⌝ }
+    ensures { λ x. ⌜ x ≡ namesDim (now (block .entry)) (r .number) d ⌝ }
 {
     let at = r.at;
     bit_at(block, at + 1, d)
 }
 
 pub fn names_row(block: &[i64], r: Place, i: usize) -> bool
-    requires { ⌜ Head (lentOf (now block)) × RulePlace (lentOf (now block)) r × Count (rowSet (lentOf (now block)) (r .number)) × (1 ≤ i)
+    requires { ⌜ Head (now block) × RulePlace (now block) r × Count (rowSet (now block) (r .number)) × (1 ≤ i)
         × (i ≤ 32) ⌝ }
-    ensures { λ x. ⌜ x ≡ namesRow (lentOf (now (block .entry))) (r .number) i ⌝ }
+    ensures { λ x. ⌜ x ≡ namesRow (now (block .entry)) (r .number) i ⌝ }
 {
     let at = r.at;
     bit_at(block, at + 2, i - 1)
 }
 
 pub fn room_low(block: &[i64], r: Place, d: usize) -> i64
-    requires { ⌜ Head (lentOf (now block)) × RulePlace (lentOf (now block)) r × (d < dims (lentOf (now block))) ⌝ }
-    ensures { λ x. ⌜ x ≡ roomLow (lentOf (now (block .entry))) (r .number) d ⌝ }
+    requires { ⌜ Head (now block) × RulePlace (now block) r × (d < dims (now block)) ⌝ }
+    ensures { λ x. ⌜ x ≡ roomLow (now (block .entry)) (r .number) d ⌝ }
 {
     let at = r.at;
     word_at(block, at + 3 + 2 * d)
 }
 
 pub fn room_high(block: &[i64], r: Place, d: usize) -> i64
-    requires { ⌜ Head (lentOf (now block)) × RulePlace (lentOf (now block)) r × (d < dims (lentOf (now block))) ⌝ }
-    ensures { λ x. ⌜ x ≡ roomHigh (lentOf (now (block .entry))) (r .number) d ⌝ }
+    requires { ⌜ Head (now block) × RulePlace (now block) r × (d < dims (now block)) ⌝ }
+    ensures { λ x. ⌜ x ≡ roomHigh (now (block .entry)) (r .number) d ⌝ }
 {
     let at = r.at;
     word_at(block, at + 4 + 2 * d)
@@ -263,22 +281,22 @@ pub fn room_high(block: &[i64], r: Place, d: usize) -> i64
 // ---- the table
 
 pub fn row_len(block: &[i64]) -> usize
-    requires { ⌜ Head (lentOf (now block)) ⌝ }
-    ensures { λ r. ⌜ r ≡ rowLen (lentOf (now (block .entry))) ⌝ }
+    requires { ⌜ Head (now block) ⌝ }
+    ensures { λ r. ⌜ r ≡ rowLen (now (block .entry)) ⌝ }
 {
     1 + 2 * axes_of(block)
 }
 
 pub fn rows_of(block: &[i64], table: &[i64]) -> usize
-    requires { ⌜ Head (lentOf (now block)) ⌝ }
-    ensures { λ r. ⌜ r ≡ rows (lentOf (now (block .entry))) (now (table .entry)) ⌝ }
+    requires { ⌜ Head (now block) ⌝ }
+    ensures { λ r. ⌜ r ≡ rows (now (block .entry)) (now (table .entry)) ⌝ }
 {
     table.len() / row_len(block)
 }
 
 pub fn row_place(block: &[i64], table: &[i64], i: usize) -> Place
-    requires { ⌜ Head (lentOf (now block)) × Rows (lentOf (now block)) (now table) × (1 ≤ i) × (i ≤ rows (lentOf (now block)) (now table)) ⌝ }
-    ensures { λ r. ⌜ RowPlace (lentOf (now (block .entry))) (now (table .entry)) r × (r .number ≡ i) ⌝ }
+    requires { ⌜ Head (now block) × Rows (now block) (now table) × (1 ≤ i) × (i ≤ rows (now block) (now table)) ⌝ }
+    ensures { λ r. ⌜ RowPlace (now (block .entry)) (now (table .entry)) r × (r .number ≡ i) ⌝ }
 {
     let w = row_len(block);
     Place {
@@ -289,44 +307,44 @@ pub fn row_place(block: &[i64], table: &[i64], i: usize) -> Place
 
 // A row's shapes, as the word, as a set, and one by one.
 pub fn shape_set_of(block: &[i64], table: &[i64], i: Place) -> i64
-    requires { ⌜ Head (lentOf (now block)) × Rows (lentOf (now block)) (now table) × RowPlace (lentOf (now block)) (now table) i ⌝ }
-    ensures { λ r. ⌜ r ≡ shapeSet (lentOf (now (block .entry))) (now (table .entry)) (i .number) ⌝ }
+    requires { ⌜ Head (now block) × Rows (now block) (now table) × RowPlace (now block) (now table) i ⌝ }
+    ensures { λ r. ⌜ r ≡ shapeSet (now (block .entry)) (now (table .entry)) (i .number) ⌝ }
 {
     let at = i.at;
     word_at(table, at)
 }
 
 pub fn shapes_of(block: &[i64], table: &[i64], i: Place) -> u32
-    requires { ⌜ Head (lentOf (now block)) × Rows (lentOf (now block)) (now table) × RowPlace (lentOf (now block)) (now table) i
-        × Count (shapeSet (lentOf (now block)) (now table) (i .number)) ⌝ }
-    ensures { λ r. ⌜ r ≡ nat (shapeSet (lentOf (now (block .entry))) (now (table .entry)) (i .number)) ⌝ }
+    requires { ⌜ Head (now block) × Rows (now block) (now table) × RowPlace (now block) (now table) i
+        × Count (shapeSet (now block) (now table) (i .number)) ⌝ }
+    ensures { λ r. ⌜ r ≡ nat (shapeSet (now (block .entry)) (now (table .entry)) (i .number)) ⌝ }
 {
     let at = i.at;
     set_at(table, at)
 }
 
 pub fn has_shape(block: &[i64], table: &[i64], i: Place, s: usize) -> bool
-    requires { ⌜ Head (lentOf (now block)) × Rows (lentOf (now block)) (now table) × RowPlace (lentOf (now block)) (now table) i
-        × Count (shapeSet (lentOf (now block)) (now table) (i .number)) × (1 ≤ s) × (s ≤ 32) ⌝ }
-    ensures { λ r. ⌜ r ≡ hasShape (lentOf (now (block .entry))) (now (table .entry)) (i .number) s ⌝ }
+    requires { ⌜ Head (now block) × Rows (now block) (now table) × RowPlace (now block) (now table) i
+        × Count (shapeSet (now block) (now table) (i .number)) × (1 ≤ s) × (s ≤ 32) ⌝ }
+    ensures { λ r. ⌜ r ≡ hasShape (now (block .entry)) (now (table .entry)) (i .number) s ⌝ }
 {
     let at = i.at;
     bit_at(table, at, s - 1)
 }
 
 pub fn low_of(block: &[i64], table: &[i64], i: Place, d: usize) -> i64
-    requires { ⌜ Head (lentOf (now block)) × Rows (lentOf (now block)) (now table) × RowPlace (lentOf (now block)) (now table) i
-        × (d < axes (lentOf (now block))) ⌝ }
-    ensures { λ r. ⌜ r ≡ low (lentOf (now (block .entry))) (now (table .entry)) (i .number) d ⌝ }
+    requires { ⌜ Head (now block) × Rows (now block) (now table) × RowPlace (now block) (now table) i
+        × (d < axes (now block)) ⌝ }
+    ensures { λ r. ⌜ r ≡ low (now (block .entry)) (now (table .entry)) (i .number) d ⌝ }
 {
     let at = i.at;
     word_at(table, at + 1 + 2 * d)
 }
 
 pub fn high_of(block: &[i64], table: &[i64], i: Place, d: usize) -> i64
-    requires { ⌜ Head (lentOf (now block)) × Rows (lentOf (now block)) (now table) × RowPlace (lentOf (now block)) (now table) i
-        × (d < axes (lentOf (now block))) ⌝ }
-    ensures { λ r. ⌜ r ≡ high (lentOf (now (block .entry))) (now (table .entry)) (i .number) d ⌝ }
+    requires { ⌜ Head (now block) × Rows (now block) (now table) × RowPlace (now block) (now table) i
+        × (d < axes (now block)) ⌝ }
+    ensures { λ r. ⌜ r ≡ high (now (block .entry)) (now (table .entry)) (i .number) d ⌝ }
 {
     let at = i.at;
     word_at(table, at + 2 + 2 * d)

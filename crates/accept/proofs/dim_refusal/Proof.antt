@@ -4,7 +4,6 @@ use borrow.Author.Needs.{needs}
 use denote.Ref.{now}
 use lib.IntN.{pos}
 use mir.Facts.{toZ-ofZ}
-use Rattle.sheet.specs.Layout.{lentOf}
 use Rattle.sheet.specs.Refusal.{noSuchDim, refusalRow, refusalShape, refusalDim}
 use Rattle.sheet.specs.Accepted.{Head}
 use Rattle.sheet.proofs.Accepted.{accepted-head, else-zero}
@@ -14,20 +13,20 @@ use Rattle.accept.proofs.dim_refusal.Statement.{statement}
 use Rattle.accept.proofs.dim_refusal.Tie as tie
 
 told : (c : tie.After-shape-refusal) → let a = c .before .args in
-    c .shape-refusal .result ≡ pos (refusalShape (lentOf (now (a .block))) (now (a .table)) (a .row) (a .shape))
+    c .shape-refusal .result ≡ pos (refusalShape (now (a .block)) (now (a .table)) (a .row) (a .shape))
 told c =
     c .shape-refusal .ensures
     ∙ ap pos (ap₂ (refusalShape _ _) (toZ-ofZ (c .before .fits .row)) (toZ-ofZ (c .before .fits .shape)))
 
-none : (c : tie.Else1) → let a = c .before .before .args in refusalShape (lentOf (now (a .block))) (now (a .table)) (a .row) (a .shape) ≡ 0
+none : (c : tie.Else1) → let a = c .before .before .args in refusalShape (now (a .block)) (now (a .table)) (a .row) (a .shape) ≡ 0
 none c = accepted (told (c .before)) (c .before .shape-refusal .ok) (c .if1 .left)
 
-head : (c : tie.Else1) → Head (lentOf (now (c .before .before .args .block)))
+head : (c : tie.Else1) → Head (now (c .before .before .args .block))
 unfolding refusalShape
 head c = accepted-head _ _ (row-accepted _ _ _ (else-zero (refusalRow _ _ _) _ (none c) .0) .0)
 
 answer : (c : tie.After-no-such-dim) → let a = c .before .before .before .args in
-    c .no-such-dim .result ≡ noSuchDim (lentOf (now (a .block))) (now (a .table)) (a .dim)
+    c .no-such-dim .result ≡ noSuchDim (now (a .block)) (now (a .table)) (a .dim)
 answer c = c .no-such-dim .ensures _ ∙ ap (noSuchDim _ _) (toZ-ofZ (c .before .before .before .fits .dim))
 
 shape-refusal-requires : tie.Need-shape-refusal-requires

@@ -10,7 +10,7 @@ use lib.Signed.{leZ}
 use mir.Facts.{toZ-ofZ, toZ-pos}
 use mir.Syntax.{w64}
 use Rattle.integers.proofs.Ints.{ints}
-use Rattle.sheet.specs.Layout.{lentOf, axes}
+use Rattle.sheet.specs.Layout.{axes}
 use Rattle.sheet.specs.Refusal.{noSuchDim}
 use Rattle.accept.proofs.Tests.{leZ-not-ltZ}
 use Rattle.accept.proofs.no_such_dim.Statement.{statement}
@@ -36,7 +36,7 @@ returns-2 c =
     let s = c .before .before in
     let e : leZ (pos 0) (s .args .dim) ≡ true = omega ints in
     let l : c .axes-of .result < 2 ^ 63 = omega (arith, c .axes-of .ensures, s .pre .few-axes) in
-    rw (e, toZ-ofZ (s .fits .dim), toZ-pos w64 l, c .axes-of .ensures) (leZ-not-ltZ (pos (axes (lentOf (now (s .args .block))))) (s .args .dim))
+    rw (e, toZ-ofZ (s .fits .dim), toZ-pos w64 l, c .axes-of .ensures) (leZ-not-ltZ (pos (axes (now (s .args .block)))) (s .args .dim))
 
 pub no-such-dim-spec : {M : Type 1} → statement M
 no-such-dim-spec = tie.close (tie.spec axes-of-requires cast-result returns returns-2)

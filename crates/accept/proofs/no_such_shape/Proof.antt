@@ -8,20 +8,20 @@ use lib.IntN.{pos, natAbs}
 use mir.Facts.{toZ-ofZ}
 use mir.Syntax.{w64}
 use mir.Val.{toZ, ofZ}
+use Rattle.sheet.proofs.Accepted.{counted}
 use Rattle.integers.specs.Integer.{nat, within}
 use Rattle.integers.proofs.Machine.{cast-ok}
 use Rattle.integers.proofs.Ranges.{nat-from}
-use Rattle.sheet.specs.Layout.{lentOf, hasShape}
+use Rattle.sheet.specs.Layout.{hasShape}
 use Rattle.sheet.specs.Refusal.{noSuchShape}
 use Rattle.sheet.specs.Accepted.{Count}
 use Rattle.words.proofs.Reading.{cast-nat}
 use Rattle.accept.proofs.Turns.{fails-by, passes-by}
-use Rattle.accept.proofs.Opening.{counted}
 use Rattle.accept.proofs.Asked.{no-shape, set-count, RowNumber, row-number}
 use Rattle.accept.proofs.no_such_shape.Statement.{statement}
 use Rattle.accept.proofs.no_such_shape.Tie as tie
 
-number : (s : tie.Start) → RowNumber (lentOf (now (s .args .block))) (now (s .args .table)) (s .args .row)
+number : (s : tie.Start) → RowNumber (now (s .args .block)) (now (s .args .table)) (s .args .row)
 number s = row-number _ _ _ (s .pre .1 .whole) (s .pre .2)
 
 row-cast : (s : tie.Start) → natAbs (toZ w64 (ofZ w64 (s .args .row))) ≡ nat (s .args .row)

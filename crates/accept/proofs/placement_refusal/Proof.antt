@@ -2,14 +2,13 @@
 use mathlib.Core.Path.{_≡_, sym, _∙_}
 use borrow.Author.Needs.{needs}
 use denote.Ref.{now}
-use Rattle.sheet.specs.Layout.{lentOf}
 use Rattle.sheet.specs.Refusal.{refusal, refusalPlacement}
 use Rattle.sheet.proofs.Accepted.{accepted-head, accepted-table}
 use Rattle.accept.proofs.Chain.{then-applies, then-passes, refused-on, accepted}
 use Rattle.accept.proofs.placement_refusal.Statement.{statement}
 use Rattle.accept.proofs.placement_refusal.Tie as tie
 
-none : (c : tie.Else1) → let a = c .before .before .args in refusal (lentOf (now (a .block))) (now (a .table)) ≡ 0
+none : (c : tie.Else1) → let a = c .before .before .args in refusal (now (a .block)) (now (a .table)) ≡ 0
 none c = accepted (c .before .refusal .ensures) (c .before .refusal .ok) (c .if1 .left)
 
 refusal-requires : tie.Need-refusal-requires

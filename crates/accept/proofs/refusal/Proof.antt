@@ -4,7 +4,6 @@ use mathlib.Core.Path.{_≡_, sym, ap, _∙_}
 use borrow.Author.Needs.{needs}
 use denote.Ref.{now}
 use lib.IntN.{pos}
-use Rattle.sheet.specs.Layout.{lentOf}
 use Rattle.sheet.specs.Refusal.{badHead, badCounts, badBox, refusal}
 use Rattle.sheet.specs.Accepted.{Head, Rows}
 use Rattle.sheet.proofs.Accepted.{head-by, rows-by, zero-when}
@@ -13,13 +12,13 @@ use Rattle.accept.proofs.refusal.Statement.{statement}
 use Rattle.accept.proofs.refusal.Tie as tie
 
 -- the checks that have passed, and what they say of the block and the table
-head-passed : (c : tie.Else1) → badHead (lentOf (now (c .before .before .args .block))) ≡ false
+head-passed : (c : tie.Else1) → badHead (now (c .before .before .args .block)) ≡ false
 head-passed c = sym (c .before .bad-head .ensures) ∙ c .if1 .left
 
-counts-passed : (c : tie.Else2) → badCounts (lentOf (now (c .before .before .before .before .args .block))) ≡ false
+counts-passed : (c : tie.Else2) → badCounts (now (c .before .before .before .before .args .block)) ≡ false
 counts-passed c = sym (c .before .bad-counts .ensures) ∙ c .if2 .left
 
-head : (c : tie.Else3) → Head (lentOf (now (c .before .before .before .before .before .before .args .block)))
+head : (c : tie.Else3) → Head (now (c .before .before .before .before .before .before .args .block))
 head c =
     let d = c .before .before in
     let e = d .before .before in
@@ -27,36 +26,36 @@ head c =
     head-by _ t (head-passed e) (counts-passed d) (sym (c .before .bad-block-length .ensures) ∙ c .if3 .left)
 
 whole : (c : tie.Else4) → let a = c .before .before .before .before .before .before .before .before .args in
-    Rows (lentOf (now (a .block))) (now (a .table))
+    Rows (now (a .block)) (now (a .table))
 whole c = rows-by _ _ (sym (c .before .bad-table-length .ensures) ∙ c .if4 .left)
 
 box-passed : (c : tie.Else5)
-    → badBox (lentOf (now (c .before .before .before .before .before .before .before .before .before .before .args .block))) ≡ false
+    → badBox (now (c .before .before .before .before .before .before .before .before .before .before .args .block)) ≡ false
 box-passed c = sym (c .before .bad-box .ensures) ∙ c .if5 .left
 
 -- and what they leave of the refusal
 past2 : (c : tie.Else1) → let a = c .before .before .args in
-    refusal (lentOf (now (a .block))) (now (a .table)) ≡ from3 (lentOf (now (a .block))) (now (a .table))
+    refusal (now (a .block)) (now (a .table)) ≡ from3 (now (a .block)) (now (a .table))
 past2 c = refusal-from2 _ _ ∙ past 2 _ (head-passed c)
 
 past3 : (c : tie.Else2) → let a = c .before .before .before .before .args in
-    refusal (lentOf (now (a .block))) (now (a .table)) ≡ from4 (lentOf (now (a .block))) (now (a .table))
+    refusal (now (a .block)) (now (a .table)) ≡ from4 (now (a .block)) (now (a .table))
 past3 c = past2 (c .before .before) ∙ past 3 _ (counts-passed c)
 
 past4 : (c : tie.Else3) → let a = c .before .before .before .before .before .before .args in
-    refusal (lentOf (now (a .block))) (now (a .table)) ≡ from5 (lentOf (now (a .block))) (now (a .table))
+    refusal (now (a .block)) (now (a .table)) ≡ from5 (now (a .block)) (now (a .table))
 past4 c = past3 (c .before .before) ∙ past 4 _ (sym (c .before .bad-block-length .ensures) ∙ c .if3 .left)
 
 past5 : (c : tie.Else4) → let a = c .before .before .before .before .before .before .before .before .args in
-    refusal (lentOf (now (a .block))) (now (a .table)) ≡ from6 (lentOf (now (a .block))) (now (a .table))
+    refusal (now (a .block)) (now (a .table)) ≡ from6 (now (a .block)) (now (a .table))
 past5 c = past4 (c .before .before) ∙ past 5 _ (sym (c .before .bad-table-length .ensures) ∙ c .if4 .left)
 
 past6 : (c : tie.Else5) → let a = c .before .before .before .before .before .before .before .before .before .before .args in
-    refusal (lentOf (now (a .block))) (now (a .table)) ≡ from7 (lentOf (now (a .block))) (now (a .table))
+    refusal (now (a .block)) (now (a .table)) ≡ from7 (now (a .block)) (now (a .table))
 past6 c = past5 (c .before .before) ∙ past 6 _ (box-passed c)
 
 past7 : (c : tie.Else6) → let a = c .before .before .before .before .before .before .before .before .before .before .before .before .args in
-    refusal (lentOf (now (a .block))) (now (a .table)) ≡ from8 (lentOf (now (a .block))) (now (a .table))
+    refusal (now (a .block)) (now (a .table)) ≡ from8 (now (a .block)) (now (a .table))
 past7 c = past6 (c .before .before) ∙ past 7 _ (sym (c .before .bad-rule .ensures) ∙ c .if6 .left)
 
 bad-head-requires : tie.Need-bad-head-requires

@@ -3,18 +3,17 @@ use mathlib.Core.Path.{_≡_, sym, ap, _∙_}
 use borrow.Author.Needs.{needs}
 use denote.Ref.{now}
 use mir.Facts.{toZ-ofZ}
-use Rattle.sheet.specs.Layout.{lentOf}
 use Rattle.sheet.specs.Refusal.{noSuchRow, refusal, refusalRow}
 use Rattle.sheet.proofs.Accepted.{accepted-head, accepted-rows}
 use Rattle.accept.proofs.Chain.{then-applies, then-passes, refused-on, accepted}
 use Rattle.accept.proofs.row_refusal.Statement.{statement}
 use Rattle.accept.proofs.row_refusal.Tie as tie
 
-none : (c : tie.Else1) → let a = c .before .before .args in refusal (lentOf (now (a .block))) (now (a .table)) ≡ 0
+none : (c : tie.Else1) → let a = c .before .before .args in refusal (now (a .block)) (now (a .table)) ≡ 0
 none c = accepted (c .before .refusal .ensures) (c .before .refusal .ok) (c .if1 .left)
 
 answer : (c : tie.After-no-such-row) → let a = c .before .before .before .args in
-    c .no-such-row .result ≡ noSuchRow (lentOf (now (a .block))) (now (a .table)) (a .row)
+    c .no-such-row .result ≡ noSuchRow (now (a .block)) (now (a .table)) (a .row)
 answer c = c .no-such-row .ensures ∙ ap (noSuchRow _ _) (toZ-ofZ (c .before .before .before .fits .row))
 
 refusal-requires : tie.Need-refusal-requires

@@ -7,7 +7,6 @@ use borrow.Author.Needs.{needs}
 use denote.Ref.{now}
 use lib.ListN.{length}
 use mir.Facts.{toZ-ofZ}
-use Rattle.sheet.specs.Layout.{lentOf}
 use Rattle.sheet.specs.Refusal.{rowSlice, rowStart}
 use Rattle.accept.proofs.Asked.{slice-ends, slice-part}
 use Rattle.accept.specs.declared.Span.{Span}
@@ -16,14 +15,14 @@ use Rattle.accept.proofs.row_slice.Tie as tie
 
 abbrev IsSpan : tie.Start → Span → Type 0
 IsSpan s r = let a = s .args in
-    (r .start ≡ rowStart (lentOf (now (a .block))) (now (a .table)) (a .row))
-    × (r .length ≡ length (rowSlice (lentOf (now (a .block))) (now (a .table)) (a .row)))
+    (r .start ≡ rowStart (now (a .block)) (now (a .table)) (a .row))
+    × (r .length ≡ length (rowSlice (now (a .block)) (now (a .table)) (a .row)))
 
 span : (c : tie.After-row-span) → IsSpan (c .before) (c .row-span .result)
 span c = simp (toZ-ofZ (c .before .fits .row)) at (c .row-span .ensures)
 
 inside : (c : tie.After-row-span) → c .row-span .result .start + c .row-span .result .length ≤ length (now (c .before .args .table))
-inside c = let a = c .before .args in omega (arith, span c .0, span c .1, slice-ends (lentOf (now (a .block))) (now (a .table)) (a .row))
+inside c = let a = c .before .args in omega (arith, span c .0, span c .1, slice-ends (now (a .block)) (now (a .table)) (a .row))
 
 row-span-requires : tie.Need-row-span-requires
 row-span-requires c κs = search needs
@@ -47,7 +46,7 @@ returns : tie.Need-returns
 returns c =
     let a = c .before .before .before .args in
     let p = span (c .before .before) in (
-      simp (add-sub-cancel-left, p .0, p .1) (sym (slice-part (lentOf (now (a .block))) (now (a .table)) (a .row))),
+      simp (add-sub-cancel-left, p .0, p .1) (sym (slice-part (now (a .block)) (now (a .table)) (a .row))),
       (refl, simp (p .0) (omega arith)),
     )
 

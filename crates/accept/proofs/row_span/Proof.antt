@@ -9,7 +9,7 @@ use mir.Syntax.{w64}
 use mir.Val.{toZ, ofZ}
 use Rattle.integers.specs.Integer.{nat}
 use Rattle.integers.proofs.Machine.{cast-ok}
-use Rattle.sheet.specs.Layout.{lentOf, rowAt}
+use Rattle.sheet.specs.Layout.{rowAt}
 use Rattle.sheet.specs.Refusal.{refusalRow}
 use Rattle.sheet.proofs.Accepted.{accepted-head, accepted-rows}
 use Rattle.words.proofs.Reading.{cast-nat}
@@ -19,13 +19,13 @@ use Rattle.accept.proofs.row_span.Statement.{statement}
 use Rattle.accept.proofs.row_span.Tie as tie
 
 told : (c : tie.After-row-refusal) → let a = c .before .args in
-    c .row-refusal .result ≡ pos (refusalRow (lentOf (now (a .block))) (now (a .table)) (a .row))
+    c .row-refusal .result ≡ pos (refusalRow (now (a .block)) (now (a .table)) (a .row))
 told c = c .row-refusal .ensures ∙ ap pos (ap (refusalRow _ _) (toZ-ofZ (c .before .fits .row)))
 
-none : (c : tie.Else1) → let a = c .before .before .args in refusalRow (lentOf (now (a .block))) (now (a .table)) (a .row) ≡ 0
+none : (c : tie.Else1) → let a = c .before .before .args in refusalRow (now (a .block)) (now (a .table)) (a .row) ≡ 0
 none c = accepted (told (c .before)) (c .before .row-refusal .ok) (c .if1 .left)
 
-number : (c : tie.Else1) → let a = c .before .before .args in RowNumber (lentOf (now (a .block))) (now (a .table)) (a .row)
+number : (c : tie.Else1) → let a = c .before .before .args in RowNumber (now (a .block)) (now (a .table)) (a .row)
 number c = let w = row-accepted _ _ _ (none c) in row-number _ _ _ (accepted-rows _ _ (w .0)) (w .1)
 
 row-cast : (c : tie.Else1) → natAbs (toZ w64 (ofZ w64 (c .before .before .args .row))) ≡ nat (c .before .before .args .row)

@@ -4,7 +4,6 @@ use borrow.Author.Needs.{needs}
 use denote.Ref.{now}
 use lib.IntN.{pos}
 use mir.Facts.{toZ-ofZ}
-use Rattle.sheet.specs.Layout.{lentOf}
 use Rattle.sheet.specs.Refusal.{noSuchShape, refusalRow, refusalShape}
 use Rattle.sheet.proofs.Accepted.{accepted-head, accepted-table}
 use Rattle.accept.proofs.Chain.{then-applies, then-passes, refused-on, accepted}
@@ -13,14 +12,14 @@ use Rattle.accept.proofs.shape_refusal.Statement.{statement}
 use Rattle.accept.proofs.shape_refusal.Tie as tie
 
 told : (c : tie.After-row-refusal) → let a = c .before .args in
-    c .row-refusal .result ≡ pos (refusalRow (lentOf (now (a .block))) (now (a .table)) (a .row))
+    c .row-refusal .result ≡ pos (refusalRow (now (a .block)) (now (a .table)) (a .row))
 told c = c .row-refusal .ensures ∙ ap pos (ap (refusalRow _ _) (toZ-ofZ (c .before .fits .row)))
 
-none : (c : tie.Else1) → let a = c .before .before .args in refusalRow (lentOf (now (a .block))) (now (a .table)) (a .row) ≡ 0
+none : (c : tie.Else1) → let a = c .before .before .args in refusalRow (now (a .block)) (now (a .table)) (a .row) ≡ 0
 none c = accepted (told (c .before)) (c .before .row-refusal .ok) (c .if1 .left)
 
 answer : (c : tie.After-no-such-shape) → let a = c .before .before .before .args in
-    c .no-such-shape .result ≡ noSuchShape (lentOf (now (a .block))) (now (a .table)) (a .row) (a .shape)
+    c .no-such-shape .result ≡ noSuchShape (now (a .block)) (now (a .table)) (a .row) (a .shape)
 answer c =
     let s = c .before .before .before in c .no-such-shape .ensures ∙ ap₂ (noSuchShape _ _) (toZ-ofZ (s .fits .row)) (toZ-ofZ (s .fits .shape))
 

@@ -1,28 +1,31 @@
--- `bounds::bound` meets its contract: a refusal is handed on, and otherwise the checks leave what `extreme` asks. Assumes nothing.
+-- `bounds::bound` meets its contract: a refusal is handed on, and otherwise the checks leave what `bound_in` asks. Assumes nothing.
 use mathlib.Core.Path.{_≡_, sym, ap, _∙_, subst}
 use mathlib.Core.List.{List}
 use Prim.Native.Nat.{ℕ, _≤_, _<_}
-use native.Mathlib.Omega.{arith}
 use lib.IntN.{ℤ, pos, natAbs}
 use mir.Syntax.{w64}
-use mir.Val.{SFits, toZ, ofZ}
+use mir.Val.{toZ, ofZ}
 use mir.Facts.{toZ-ofZ}
 use Rattle.integers.specs.Integer.{nat}
 use Rattle.integers.proofs.Machine.{cast-ok}
-use Rattle.sheet.specs.Layout.{Lent, lentOf, axes, rows}
+use Rattle.sheet.specs.Layout.{axes, rows}
+use Rattle.sheet.specs.Accepted.{Boxed}
+use Rattle.sheet.specs.Answer.{boundAnswer}
 use Rattle.sheet.specs.Refusal.{refusalDim}
+use Rattle.sheet.specs.declared.Bound.{Bound}
 use Rattle.sheet.specs.declared.Bound.the-variants as B
 use Rattle.sheet.proofs.Accepted.{accepted-head, accepted-rows, accepted-block, accepted-table}
 use Rattle.words.proofs.Reading.{read-back, cast-nat}
 use Rattle.accept.proofs.Chain.{refused, accepted}
-use Rattle.bounds.specs.Search.{coordinate, extremeOf}
-use Rattle.bounds.proofs.Calls.{ap₃, Asked, asked, answer-refused, answer-at, answer-none}
+use Rattle.outline.specs.Outline.{Subject}
+use Rattle.bounds.specs.Search.{extremeOf}
+use Rattle.bounds.proofs.Calls.{ap₃, DimAsked, dim-asked, answer-refused}
 use borrow.Author.Needs.{needs}
 use Rattle.bounds.proofs.bound.Statement.{statement}
 use Rattle.bounds.proofs.bound.Tie as tie
 
 told : (c : tie.After-dim-refusal) → let a = c .before .args in
-    c .dim-refusal .result ≡ pos (refusalDim (lentOf (a .block .now)) (a .table .now) (a .row) (a .shape) (a .dimension))
+    c .dim-refusal .result ≡ pos (refusalDim (a .block .now) (a .table .now) (a .row) (a .shape) (a .dimension))
 told c =
     c .dim-refusal .ensures
     ∙ ap pos (ap₃ (refusalDim _ _) (toZ-ofZ (c .before .fits .row)) (toZ-ofZ (c .before .fits .shape)) (toZ-ofZ (c .before .fits .dimension)))
@@ -31,35 +34,26 @@ module _ (e : tie.Else1) where
   abbrev top : tie.Start
   top = e .before .before
 
-  abbrev lent : Lent
-  lent = lentOf (e .before .before .args .block .now)
+  abbrev block : List ℤ
+  block = e .before .before .args .block .now
 
   abbrev t : List ℤ
   t = e .before .before .args .table .now
 
-  no-refusal : refusalDim lent t (top .args .row) (top .args .shape) (top .args .dimension) ≡ 0
+  no-refusal : refusalDim block t (top .args .row) (top .args .shape) (top .args .dimension) ≡ 0
   no-refusal = accepted (told (e .before)) (e .before .dim-refusal .ok) (e .if1 .left)
 
-  asks : Asked lent t (top .args .row) (top .args .shape) (top .args .dimension)
-  asks = asked lent t (top .args .row) (top .args .shape) (top .args .dimension) no-refusal
+  asks : DimAsked block t (top .args .row) (top .args .shape) (top .args .dimension)
+  asks = dim-asked block t (top .args .row) (top .args .shape) (top .args .dimension) no-refusal
 
   row-is : natAbs (toZ w64 (ofZ w64 (top .args .row))) ≡ nat (top .args .row)
-  row-is = cast-nat (top .args .row) (top .fits .row .sfits) (asks .row-in .count)
+  row-is = cast-nat (top .args .row) (top .fits .row .sfits) (asks .shape-of .row-in .count)
 
   shape-is : natAbs (toZ w64 (ofZ w64 (top .args .shape))) ≡ nat (top .args .shape)
-  shape-is = cast-nat (top .args .shape) (top .fits .shape .sfits) (asks .shape-in)
+  shape-is = cast-nat (top .args .shape) (top .fits .shape .sfits) (asks .shape-of .shape-in)
 
   dim-is : natAbs (toZ w64 (ofZ w64 (top .args .dimension))) ≡ nat (top .args .dimension)
   dim-is = cast-nat (top .args .dimension) (top .fits .dimension .sfits) (asks .dim-in)
-
-found : (x : tie.After-extreme) → let e = x .before .before .before .before .before .before in
-    coordinate (x .extreme .result)
-    ≡ extremeOf (top e .args .flip) (lent e) (t e) (nat (top e .args .row)) (nat (top e .args .shape)) (nat (top e .args .dimension))
-found x =
-    let r = x .before .before .before .before .before in
-    let e = r .before in
-    x .extreme .ensures
-    ∙ ap₃ (extremeOf (top e .args .flip) (lent e) (t e)) (r .row-place .ensures .1 ∙ row-is e) (shape-is e) (dim-is e)
 
 dim-refusal-requires : tie.Need-dim-refusal-requires
 dim-refusal-requires c κs = search needs
@@ -70,62 +64,87 @@ returns c =
     ap B.Refused (read-back (told (c .before)) (g .ok)) ∙ sym (answer-refused _ (refused (told (c .before)) (g .ok) (c .if1 .taken)))
 
 cast-row-place : tie.Need-cast-row-place
-cast-row-place c = let n = asks c .row-in .count in cast-ok (n .from) (n .upto) tt tt
+cast-row-place c = let n = asks c .shape-of .row-in .count in cast-ok (n .from) (n .upto) tt tt
 
 row-place-requires : tie.Need-row-place-requires
 row-place-requires c κs =
-    let a = asks c in (
-      accepted-head (lent c) (t c) (a .accepted),
-      accepted-rows (lent c) (t c) (a .accepted),
+    let a = asks c .shape-of in (
+      accepted-head (block c) (t c) (a .accepted),
+      accepted-rows (block c) (t c) (a .accepted),
       subst (λ (n : ℕ). 1 ≤ n) (sym (row-is c)) (a .row-in .from),
-      subst (λ (n : ℕ). n ≤ rows (lent c) (t c)) (sym (row-is c)) (a .row-in .upto),
+      subst (λ (n : ℕ). n ≤ rows (block c) (t c)) (sym (row-is c)) (a .row-in .upto),
     )
 
-slice-aggregate-prepare : tie.Need-slice-aggregate-prepare
-slice-aggregate-prepare c = search needs
+cast-s : tie.Need-cast-s
+cast-s c = let n = asks (c .before) .shape-of .shape-in in cast-ok (n .from) (n .upto) tt tt
 
-prepare-requires : tie.Need-prepare-requires
-prepare-requires c κs = let e = c .before .before in (accepted-block (lent e) (t e) (asks e .accepted), omega arith)
+cast-d : tie.Need-cast-d
+cast-d c = let n = asks (c .before) .dim-in in cast-ok (n .from) (n .upto) tt tt
 
-slice-aggregate-extreme : tie.Need-slice-aggregate-extreme
-slice-aggregate-extreme c = search needs
+draw-requires : tie.Need-draw-requires
+draw-requires c κs = let e = c .before .before in accepted-block (block e) (t e) (asks e .shape-of .accepted)
 
-cast-extreme : tie.Need-cast-extreme
-cast-extreme c = let n = asks (c .before .before .before .before .before) .shape-in in cast-ok (n .from) (n .upto) tt tt
+-- the row and the shape, with the outline that was drawn
+module _ (c : tie.After-most) where
+  abbrev drawn : tie.After-draw
+  drawn = c .before .before
 
-cast-extreme-2 : tie.Need-cast-extreme-2
-cast-extreme-2 c = let n = asks (c .before .before .before .before .before) .dim-in in cast-ok (n .from) (n .upto) tt tt
+  abbrev checked : tie.Else1
+  checked = c .before .before .before .before .before
 
-extreme-requires : tie.Need-extreme-requires
-extreme-requires c κs =
-    let p = c .before .before in
-    let r = p .before .before in
-    let e = r .before in
-    let a = asks e in (
-      accepted-block (lent e) (t e) (a .accepted),
-      accepted-table (lent e) (t e) (a .accepted),
-      r .row-place .ensures .0,
-      subst (λ (n : ℕ). n < axes (lent e)) (sym (dim-is e)) (a .dim-below),
-      p .prepare .ensures,
-    )
+  abbrev placed : tie.After-row-place
+  placed = c .before .before .before .before
 
-enum-known-z : tie.Need-enum-known-z
-enum-known-z c = search needs
+  subject : Subject (block checked) (t checked) (drawn .draw .last .1 .0) (placed .row-place .result)
+      (natAbs (toZ w64 (ofZ w64 (top checked .args .shape))))
+  subject =
+      let a = asks checked .shape-of in
+      record {
+        accepted = accepted-block (block checked) (t checked) (a .accepted);
+        table = accepted-table (block checked) (t checked) (a .accepted);
+        outline = drawn .draw .ensures;
+        row = placed .row-place .ensures .0;
+        shape = subst (Boxed (block checked)) (sym (shape-is checked)) (a .boxed);
+      }
 
-enum-told : tie.Need-enum-told
-enum-told c = search needs
+  below : natAbs (toZ w64 (ofZ w64 (top checked .args .dimension))) < axes (block checked)
+  below = subst (λ (n : ℕ). n < axes (block checked)) (sym (dim-is checked)) (asks checked .dim-below)
+
+  -- what is found of them is the answer
+  answered : {r : Bound} → let a = top checked .args in
+      r ≡ boundAnswer 0 (extremeOf (a .flip) (block checked) (t checked) (placed .row-place .result .number)
+      (natAbs (toZ w64 (ofZ w64 (a .shape)))) (natAbs (toZ w64 (ofZ w64 (a .dimension)))))
+      → r ≡ boundAnswer (refusalDim (block checked) (t checked) (a .row) (a .shape) (a .dimension))
+      (extremeOf (a .flip) (block checked) (t checked) (nat (a .row)) (nat (a .shape)) (nat (a .dimension)))
+  answered e =
+      e ∙ rw (no-refusal checked)
+      (ap (boundAnswer 0) (ap₃ (extremeOf (top checked .args .flip) (block checked) (t checked))
+      (placed .row-place .ensures .1 ∙ row-is checked) (shape-is checked) (dim-is checked)))
+
+most-requires : tie.Need-most-requires
+most-requires c κs =
+    let d = c .before in
+    let e = d .before .before .before in
+    let a = asks e .shape-of .accepted in
+    (accepted-head (block e) (t e) a, accepted-rows (block e) (t e) a, d .draw .ensures .rules .count)
+
+slice-aggregate-bound-in : tie.Need-slice-aggregate-bound-in
+slice-aggregate-bound-in c = search needs
+
+bound-in-requires : tie.Need-bound-in-requires
+bound-in-requires c κs = let m = c .before .before .before in (subject m, below m)
 
 returns-2 : tie.Need-returns-2
-returns-2 c =
-    let x = c .before .before .before .before in
-    let f : SFits w64 (c .before .z .given .0 .0) = search needs in
-    ap B.At (toZ-ofZ f) ∙ answer-at (c .before .z .given .0 .0) (no-refusal (x .before .before .before .before .before .before))
-    (ap coordinate (sym (c .before .z .given .1)) ∙ found x)
+returns-2 c = answered (c .before .before .before .before .before) (c .before .bound-in .ensures)
+
+slice-aggregate-bound-in-2 : tie.Need-slice-aggregate-bound-in-2
+slice-aggregate-bound-in-2 c = search needs
+
+bound-in-requires-2 : tie.Need-bound-in-requires-2
+bound-in-requires-2 c κs = let m = c .before .before .before in (subject m, below m)
 
 returns-3 : tie.Need-returns-3
-returns-3 c =
-    let x = c .before .before .before in
-    answer-none (no-refusal (x .before .before .before .before .before .before)) (ap coordinate (sym (c .enum-told .given .1)) ∙ found x)
+returns-3 c = answered (c .before .before .before .before .before) (c .before .bound-in2 .ensures)
 
 pub bound-spec : {M : Type 1} → statement M
 bound-spec =
@@ -135,13 +154,13 @@ bound-spec =
     returns
     cast-row-place
     row-place-requires
-    slice-aggregate-prepare
-    prepare-requires
-    slice-aggregate-extreme
-    cast-extreme
-    cast-extreme-2
-    extreme-requires
-    enum-known-z
-    enum-told
+    cast-s
+    cast-d
+    draw-requires
+    most-requires
+    slice-aggregate-bound-in
+    bound-in-requires
     returns-2
+    slice-aggregate-bound-in-2
+    bound-in-requires-2
     returns-3)

@@ -9,7 +9,6 @@ use lib.ListN.{length}
 use mir.Facts.{toZ-ofZ, toZ-pos}
 use mir.Syntax.{w64}
 use Rattle.integers.proofs.Machine.{fits-word}
-use Rattle.sheet.specs.Layout.{lentOf}
 use Rattle.sheet.specs.Refusal.{rowSlice, rowStart}
 use Rattle.accept.proofs.Asked.{slice-ends}
 use Rattle.accept.specs.declared.Span.{Span}
@@ -18,15 +17,15 @@ use Rattle.capi.proofs.zk_row_span.Tie as tie
 
 abbrev IsSpan : tie.Start → Span → Type 0
 IsSpan s r = let a = s .args in
-    (r .start ≡ rowStart (lentOf (now (a .block))) (now (a .table)) (a .row))
-    × (r .length ≡ length (rowSlice (lentOf (now (a .block))) (now (a .table)) (a .row)))
+    (r .start ≡ rowStart (now (a .block)) (now (a .table)) (a .row))
+    × (r .length ≡ length (rowSlice (now (a .block)) (now (a .table)) (a .row)))
 
 module _ (c : tie.After-row-span) where
   span : IsSpan (c .before) (c .row-span .result)
   span = simp (toZ-ofZ (c .before .fits .row)) at (c .row-span .ensures)
 
   inside : c .row-span .result .start + c .row-span .result .length ≤ length (now (c .before .args .table))
-  inside = let a = c .before .args in omega (arith, span .0, span .1, slice-ends (lentOf (now (a .block))) (now (a .table)) (a .row))
+  inside = let a = c .before .args in omega (arith, span .0, span .1, slice-ends (now (a .block)) (now (a .table)) (a .row))
 
   small : c .row-span .result .start + c .row-span .result .length < 2 ^ 63
   small = omega (arith, inside, c .before .good)

@@ -6,7 +6,7 @@ use native.Mathlib.Omega.{arith}
 use denote.Ref.{now}
 use Rattle.integers.specs.Below.{anyBelow}
 use Rattle.integers.proofs.Below.{any-zero}
-use Rattle.sheet.specs.Layout.{lentOf, rules}
+use Rattle.sheet.specs.Layout.{rules}
 use Rattle.sheet.specs.Allowed.{forbidden}
 use Rattle.forbid.specs.Region.{rowsForbid, ruleForbids}
 use Rattle.forbid.proofs.Regions.{missed, miss, forbids-any, none-more}
@@ -14,19 +14,22 @@ use Rattle.forbid.proofs.forbidding_region.Statement.{statement}
 use Rattle.forbid.proofs.forbidding_region.Tie as tie
 
 abbrev Inv-loop : tie.InvT-loop
-Inv-loop block table i s p n r₀ r = (r ≤ n) × (anyBelow r (λ m. ruleForbids (lentOf block) table (i .number) s m p) ≡ false)
+Inv-loop block table outline i s p n r₀ r = (r ≤ n) × (anyBelow r (λ m. ruleForbids block table (i .number) s m p) ≡ false)
 
 abbrev μ-loop : tie.MeasureT-loop
-μ-loop block table i s p n r₀ r = n - r
+μ-loop block table outline i s p n r₀ r = n - r
 
 rules-of-requires : tie.Need-rules-of-requires Inv-loop μ-loop
-rules-of-requires c κs = c .pre .block .head
+rules-of-requires c κs = c .pre .0 .accepted .head
 
 loop-holds : tie.Need-loop-holds Inv-loop μ-loop
 loop-holds c = (omega arith, any-zero _)
 
 rule-region-requires : tie.Need-rule-region-requires Inv-loop μ-loop
-rule-region-requires c κs = let n = c .before .before in (n .before .pre, omega (arith, n .rules-of .ensures, c .loop-test .taken))
+rule-region-requires c κs =
+    let n = c .before .before in
+    let w = n .before .pre in
+    (w .0, w .1, omega (arith, n .rules-of .ensures, c .loop-test .taken))
 
 returns : tie.Need-returns Inv-loop μ-loop
 unfolding forbidden ruleForbids rowsForbid
@@ -34,7 +37,7 @@ returns c =
     let x = c .before in
     let n = x .before .before .before in
     let a = n .before .args in
-    forbids-any (ruleForbids (lentOf (now (a .block))) (now (a .table)) (a .i .number) (a .s))
+    forbids-any (ruleForbids (now (a .block)) (now (a .table)) (a .i .number) (a .s))
     (omega (arith, n .rules-of .ensures, x .before .loop-test .taken)) (c .if1 .taken) (x .rule-region .ensures)
 
 add-r : tie.Need-add-r Inv-loop μ-loop
@@ -54,7 +57,7 @@ unfolding forbidden ruleForbids rowsForbid
 returns-2 c =
     let l = c .before .before in
     let n = l .before in
-    let q : l .loop .r ≡ rules (lentOf (now (n .before .args .block))) = omega (arith, n .rules-of .ensures, c .before .loop-test .left) in
+    let q : l .loop .r ≡ rules (now (n .before .args .block)) = omega (arith, n .rules-of .ensures, c .before .loop-test .left) in
     missed (rw q at (l .loop .inv .1)) (c .none .ensures)
 
 pub forbidding-region-spec : {M : Type 1} → statement M

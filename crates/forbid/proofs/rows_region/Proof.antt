@@ -7,7 +7,7 @@ use native.Mathlib.Omega.{arith}
 use denote.Ref.{now}
 use Rattle.integers.specs.Below.{anyBelow}
 use Rattle.integers.proofs.Below.{any-zero}
-use Rattle.sheet.specs.Layout.{lentOf, rows}
+use Rattle.sheet.specs.Layout.{rows}
 use Rattle.sheet.specs.Allowed.{rowForbids}
 use Rattle.forbid.specs.Region.{rowsForbid}
 use Rattle.forbid.proofs.Regions.{missed, miss, forbids-by, none-more}
@@ -16,33 +16,36 @@ use Rattle.forbid.proofs.rows_region.Statement.{statement}
 use Rattle.forbid.proofs.rows_region.Tie as tie
 
 abbrev Inv-loop : tie.InvT-loop
-Inv-loop block table r i s p n j₀ j =
-    (j ≤ n) × (anyBelow j (λ m. rowForbids (lentOf block) table (r .number) p (i .number) s (suc m)) ≡ false)
+Inv-loop block table outline r i s p n j₀ j = (j ≤ n) × (anyBelow j (λ m. rowForbids block table (r .number) p i s (suc m)) ≡ false)
 
 abbrev μ-loop : tie.MeasureT-loop
-μ-loop block table r i s p n j₀ j = n - j
+μ-loop block table outline r i s p n j₀ j = n - j
 
 rows-of-requires : tie.Need-rows-of-requires Inv-loop μ-loop
-rows-of-requires c κs = c .pre .0 .block .head
+rows-of-requires c κs = c .pre .0 .accepted .head
 
 loop-holds : tie.Need-loop-holds Inv-loop μ-loop
 loop-holds c = (omega arith, any-zero _)
 
-add-row-region : tie.Need-add-row-region Inv-loop μ-loop
-add-row-region c = omega arith
+add-row-place : tie.Need-add-row-place Inv-loop μ-loop
+add-row-place c = omega arith
+
+row-place-requires : tie.Need-row-place-requires Inv-loop μ-loop
+row-place-requires c κs =
+    let n = c .before .before in
+    let w = n .before .pre .0 in
+    (w .accepted .head, w .table .whole, omega arith, omega (arith, n .rows-of .ensures, c .loop-test .taken))
 
 row-region-requires : tie.Need-row-region-requires Inv-loop μ-loop
 row-region-requires c κs =
-    let n = c .before .before in
-    let s = n .before in
-    (s .pre .0, s .pre .1, omega arith, omega (arith, n .rows-of .ensures, c .loop-test .taken))
+    let s = c .before .before .before .before in
+    record { asked = s .pre .0; rule = s .pre .1; row = c .row-place .ensures .0 }
 
 returns : tie.Need-returns Inv-loop μ-loop
 returns c =
     let x = c .before in
-    let n = x .before .before .before in
-    forbids-by (some-row _ _ _ _ _ _ (omega arith) (omega (arith, n .rows-of .ensures, x .before .loop-test .taken)))
-    (c .if1 .taken) (x .row-region .ensures)
+    let j = x .before .row-place .ensures .0 in
+    forbids-by (some-row _ _ _ _ _ _ (j .from) (j .upto)) (c .if1 .taken) (x .row-region .ensures)
 
 add-j : tie.Need-add-j Inv-loop μ-loop
 add-j c = omega arith
@@ -52,7 +55,10 @@ loop-less c = omega arith
 
 loop-again : tie.Need-loop-again Inv-loop μ-loop
 loop-again c =
-    (omega arith, none-more _ (c .before .before .before .loop .inv .1) (rw add-one at (miss (c .before .row-region .ensures) (c .if1 .left))))
+    let x = c .before in
+    let p = x .before in
+    let e = rw (p .row-place .ensures .1, add-one) at (miss (x .row-region .ensures) (c .if1 .left)) in
+    (omega arith, none-more _ (p .before .before .loop .inv .1) e)
 
 none-requires : tie.Need-none-requires Inv-loop μ-loop
 none-requires c κs = tt
@@ -63,7 +69,7 @@ returns-2 c =
     let l = c .before .before in
     let n = l .before in
     let a = n .before .args in
-    let q : l .loop .j ≡ rows (lentOf (now (a .block))) (now (a .table)) = omega (arith, n .rows-of .ensures, c .before .loop-test .left) in
+    let q : l .loop .j ≡ rows (now (a .block)) (now (a .table)) = omega (arith, n .rows-of .ensures, c .before .loop-test .left) in
     missed (rw q at (l .loop .inv .1)) (c .none .ensures)
 
 pub rows-region-spec : {M : Type 1} → statement M
@@ -74,7 +80,8 @@ rows-region-spec =
     μ-loop
     rows-of-requires
     loop-holds
-    add-row-region
+    add-row-place
+    row-place-requires
     row-region-requires
     returns
     add-j

@@ -8,12 +8,12 @@ use Rattle.forbid.proofs.rule_region.Statement.{statement}
 use Rattle.forbid.proofs.rule_region.Tie as tie
 
 rule-place-requires : tie.Need-rule-place-requires
-rule-place-requires c κs = (c .pre .0 .block .head, c .pre .1)
+rule-place-requires c κs = (c .pre .0 .accepted .head, c .pre .2)
 
 is-non-overlap-of-requires : tie.Need-is-non-overlap-of-requires
 is-non-overlap-of-requires c κs =
-    let w = c .before .pre .0 in
-    (w .block, c .rule-place .ensures .0, w .row .from, omega (arith, w .row .upto, w .table .whole .few-rows))
+    let w = c .before .pre in
+    (w .0 .accepted, c .rule-place .ensures .0, w .1 .from, omega (arith, w .1 .upto, w .0 .table .whole .few-rows))
 
 none-requires : tie.Need-none-requires
 none-requires c κs = tt

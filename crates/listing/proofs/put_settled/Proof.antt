@@ -8,7 +8,6 @@ use lib.IntN.{ℤ}
 use lib.ListN.{length, take}
 use lib.Seq.{length-take-le, take-all}
 use Rattle.stores.proofs.Puts.{put-as}
-use Rattle.sheet.specs.Layout.{lentOf}
 use Rattle.sheet.specs.Text.{printedFor}
 use borrow.Author.Needs.{needs}
 use Rattle.listing.proofs.put_settled.Statement.{statement}
@@ -41,7 +40,7 @@ returns-2 c =
     let if1 = put-table2 .before .before in
     let start = if1 .before .before in
     let whole = take-all 288 (now (start .args .table)) (if1 .if1 .left) in
-    put-as (ap (λ (t : List ℤ). printedFor 0 (lentOf (now (start .args .block))) (some t)) (sym whole)) (put-table2 .put-table2 .ensures)
+    put-as (ap (λ (t : List ℤ). printedFor 0 (now (start .args .block)) (some t)) (sym whole)) (put-table2 .put-table2 .ensures)
 
 pub put-settled-spec : {M : Type 1} → statement M
 put-settled-spec =

@@ -13,9 +13,9 @@ use Rattle.integers.specs.Integer.{eqZ}
 use Rattle.integers.specs.Words.{word, pairsBelow, replaced}
 use Rattle.integers.proofs.Machine.{fits-word}
 use Rattle.integers.proofs.Lists.{length-pairsBelow, pairsBelow-more}
-use Rattle.sheet.specs.Layout.{lentOf, axes}
+use Rattle.sheet.specs.Layout.{axes}
 use Rattle.words.proofs.Ends.{row-ends}
-use Rattle.region.proofs.Sums.{bits-back}
+use Rattle.points.proofs.Sums.{bits-back}
 use Rattle.narrow.specs.Ends.{endAt}
 use Rattle.narrow.proofs.Writes.{Written, written-none, written-more, written-front, length-written}
 use Rattle.narrow.proofs.write_row.Statement.{statement}
@@ -183,7 +183,7 @@ returns c =
     let w = all-written (c .before) in
     let l = done (c .before) in
     let a = s l .args in
-    let q : l .loop .d ≡ axes (lentOf (now (a .block))) =
+    let q : l .loop .d ≡ axes (now (a .block)) =
     omega (arith, l .before .axes-of .ensures, l .loop .inv .0, c .before .before .before .loop-test .left) in
     (w .is ∙ ap₂ (λ (p m : ℕ). replaced (first l) p (pos (a .shapes) ∷ pairsBelow m (lows l) (highs l))) (s l .pre .2 .stands) q, w .tells)
 

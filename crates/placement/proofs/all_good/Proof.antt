@@ -7,7 +7,6 @@ use borrow.Author.Needs.{needs}
 use denote.Ref.{now}
 use Rattle.integers.specs.Below.{allUpTo}
 use Rattle.integers.proofs.Below.{all-zero, upto-at}
-use Rattle.sheet.specs.Layout.{lentOf}
 use Rattle.sheet.specs.Placement.{rowFixed, fixed, good}
 use Rattle.accept.proofs.Turns.{fails-by, passes-by, upto-next, upto-false, all-done}
 use Rattle.placement.specs.Rows.{rowGood}
@@ -15,19 +14,19 @@ use Rattle.placement.proofs.all_good.Statement.{statement}
 use Rattle.placement.proofs.all_good.Tie as tie
 
 abbrev Inv-loop : tie.InvT-loop
-Inv-loop block table n m₀ m = (m ≤ n) × (allUpTo m (rowGood (lentOf block) table) ≡ true)
+Inv-loop block table outline n m₀ m = (m ≤ n) × (allUpTo m (rowGood block table) ≡ true)
 
 abbrev μ-loop : tie.MeasureT-loop
-μ-loop block table n m₀ m = n - m
+μ-loop block table outline n m₀ m = n - m
 
 abbrev test : tie.At-loop Inv-loop μ-loop → ℕ → Bool
-test c = let a = c .before .before .args in rowGood (lentOf (now (a .block))) (now (a .table))
+test c = let a = c .before .before .args in rowGood (now (a .block)) (now (a .table))
 
 answer : (c : tie.After-row-good Inv-loop μ-loop) → let l = c .before .before .before in c .row-good .result ≡ test l (l .loop .m + 1)
 answer c = c .row-good .ensures ∙ ap (test (c .before .before .before)) (c .before .row-place .ensures .1)
 
 rows-of-requires : tie.Need-rows-of-requires Inv-loop μ-loop
-rows-of-requires c κs = c .pre .0 .head
+rows-of-requires c κs = c .pre .accepted .head
 
 loop-holds : tie.Need-loop-holds Inv-loop μ-loop
 loop-holds c = (search needs, all-zero _)
@@ -38,14 +37,16 @@ add-row-place c = search needs
 row-place-requires : tie.Need-row-place-requires Inv-loop μ-loop
 row-place-requires c κs =
     let s = c .before .before .before .pre in
-    (s .0 .head, s .1 .whole, omega arith, omega (arith, c .before .before .rows-of .ensures))
+    (s .accepted .head, s .table .whole, omega arith, omega (arith, c .before .before .rows-of .ensures))
 
 row-good-requires : tie.Need-row-good-requires Inv-loop μ-loop
 unfolding fixed
 row-good-requires c κs =
     let s = c .before .before .before .before .pre in
-    let p = c .row-place .ensures .0 in
-    (s .0, s .1, p, upto-at (rowFixed _ _) (s .2) _ (p .from) (p .upto))
+    let p = c .row-place .ensures .0 in (
+      record { accepted = s .accepted; table = s .table; outline = s .outline; row = p },
+      upto-at (rowFixed _ _) (s .all-fixed) _ (p .from) (p .upto),
+    )
 
 returns : tie.Need-returns Inv-loop μ-loop
 unfolding good

@@ -12,13 +12,13 @@ use mir.Val.{toZ, ofZ}
 use lib.Seq.{getD-set-same, getD-set-other}
 use Rattle.integers.specs.Words.{word}
 use Rattle.integers.proofs.Below.{last-or}
-use Rattle.sheet.specs.Layout.{lentOf, low}
+use Rattle.sheet.specs.Layout.{low}
 use Rattle.words.proofs.Reading.{read-back}
 use Rattle.placement.proofs.origin.Statement.{statement}
 use Rattle.placement.proofs.origin.Tie as tie
 
 abbrev Inv-loop : tie.InvT-loop
-Inv-loop block table i k p₀ d₀ p d = (d ≤ k) × (length p ≡ 4) × ((e : ℕ) → e < d → word p e ≡ low (lentOf block) table (i .number) e)
+Inv-loop block table i k p₀ d₀ p d = (d ≤ k) × (length p ≡ 4) × ((e : ℕ) → e < d → word p e ≡ low block table (i .number) e)
 
 abbrev μ-loop : tie.MeasureT-loop
 μ-loop block table i k p₀ d₀ p d = k - d

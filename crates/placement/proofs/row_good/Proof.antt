@@ -1,17 +1,18 @@
 -- `placement::row_good` meets its contract: a fixed row has one shape, where its set's trailing zeros end. Assumes nothing.
 use mathlib.Core.Path.{_∙_}
+use native.Mathlib.Numerals.{add-one}
 use native.Mathlib.Omega.{arith}
-use lib.Count.{trailing-le}
+use lib.Count.{trailingZeros, trailing-le}
 use borrow.Author.Needs.{needs}
 use Rattle.accept.proofs.Asked.{set-count}
-use Rattle.placement.proofs.OneShape.{row-good-is}
+use Rattle.placement.proofs.OneShape.{held, row-good-is}
 use Rattle.placement.proofs.row_good.Statement.{statement}
 use Rattle.placement.proofs.row_good.Tie as tie
 
 shapes-of-requires : tie.Need-shapes-of-requires
 shapes-of-requires c κs =
-    let i = c .pre .2 in
-    (c .pre .0 .head, c .pre .1 .whole, i, set-count (c .pre .1) (i .from) (i .upto))
+    let w = c .pre .0 in
+    (w .accepted .head, w .table .whole, w .row, set-count (w .table) (w .row .from) (w .row .upto))
 
 cast-s : tie.Need-cast-s
 cast-s c = omega (arith, trailing-le 32 (c .shapes-of .result))
@@ -23,14 +24,25 @@ origin-requires : tie.Need-origin-requires
 origin-requires c κs = search needs
 
 stands-requires : tie.Need-stands-requires
-stands-requires c κs = search needs
+stands-requires c κs =
+    let s = c .before .before in
+    let w = s .pre .0 in
+    let e = c .before .shapes-of .ensures in
+    record {
+      accepted = w .accepted;
+      table = w .table;
+      outline = w .outline;
+      row = w .row;
+      shape = w .table .boxed _ _ (w .row .from) (w .row .upto)
+          (rw (e, add-one (trailingZeros 32 _)) (held _ _ _ (w .table) (w .row .from) (w .row .upto) (s .pre .1)));
+    }
 
 returns : tie.Need-returns
 returns c =
     let s = c .before .before .before in
-    let i = s .pre .2 in
+    let w = s .pre .0 in
     rw (c .before .before .shapes-of .ensures) at (c .stands .ensures)
-    ∙ row-good-is _ _ _ (s .pre .1) (i .from) (i .upto) (s .pre .3) _ (c .before .origin .ensures)
+    ∙ row-good-is _ _ _ (w .table) (w .row .from) (w .row .upto) (s .pre .1) _ (c .before .origin .ensures)
 
 pub row-good-spec : {M : Type 1} → statement M
 row-good-spec =

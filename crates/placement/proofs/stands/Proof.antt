@@ -3,18 +3,17 @@ use mathlib.Core.Path.{_≡_, sym, ap, ap₂, _∙_}
 use mathlib.Core.Bool.{Bool, not, _&&_}
 use Prim.Native.Nat.{ℕ}
 use borrow.Author.Tests.{not-true, not-false}
-use Rattle.sheet.specs.Layout.{lentOf}
 use Rattle.sheet.specs.Allowed.{inRanges, roomsHold, forbidden, allowed}
-use Rattle.region.specs.Area.{inArea}
-use Rattle.region.proofs.Areas.{in-small}
+use Rattle.points.specs.Area.{inArea}
+use Rattle.points.proofs.Areas.{in-small}
 use borrow.Author.Needs.{needs}
 use Rattle.placement.proofs.stands.Statement.{statement}
 use Rattle.placement.proofs.stands.Tie as tie
 
 -- what the box test says
 boxed : (c : tie.After-holds) → let s = c .before .before .before in
-    (inRanges (lentOf (s .args .block .now)) (s .args .table .now) (s .args .i .number) (s .args .p)
-    && roomsHold (lentOf (s .args .block .now)) (s .args .i .number) (s .args .s) (s .args .p)) ≡ c .holds .result
+    (inRanges (s .args .block .now) (s .args .table .now) (s .args .i .number) (s .args .p)
+    && roomsHold (s .args .block .now) (s .args .i .number) (s .args .s) (s .args .p)) ≡ c .holds .result
 boxed c =
     let cut = c .before in
     sym (cut .cut-box .ensures .is _)
@@ -33,21 +32,25 @@ returns : tie.Need-returns
 unfolding allowed
 returns c =
     let s = c .before .before .before .before in
-    ap (λ (b : Bool). b && not (forbidden (lentOf (s .args .block .now)) (s .args .table .now) (s .args .i .number) (s .args .s) (s .args .p)))
+    ap (λ (b : Bool). b && not (forbidden (s .args .block .now) (s .args .table .now) (s .args .i .number) (s .args .s) (s .args .p)))
     (sym (not-true _ (c .if1 .taken)) ∙ sym (boxed (c .before)))
 
 forbidding-region-requires : tie.Need-forbidding-region-requires
 forbidding-region-requires c κs =
     let h = c .before in
     let s = h .before .before .before in
-    record {
-      block = s .pre .0;
-      table = s .pre .1;
-      row = s .pre .2;
-      near = in-small _ _ (h .before .cut-box .ensures .small)
-          (ap (λ (n : ℕ). inArea n (h .before .cut-box .result) (s .args .p)) (sym (h .before .before .axes-of .ensures)) ∙ sym (h .holds .ensures)
-          ∙ not-false _ (c .if1 .left));
-    }
+    let w = s .pre in (
+      record {
+        accepted = w .accepted;
+        table = w .table;
+        outline = w .outline;
+        own = w .shape;
+        near = in-small _ _ (h .before .cut-box .ensures .small)
+            (ap (λ (n : ℕ). inArea n (h .before .cut-box .result) (s .args .p)) (sym (h .before .before .axes-of .ensures)) ∙ sym (h .holds .ensures)
+            ∙ not-false _ (c .if1 .left));
+      },
+      w .row,
+    )
 
 returns-2 : tie.Need-returns-2
 unfolding allowed

@@ -1,8 +1,8 @@
 -- `region::cut_box` meets its contract: the ranges cut by the rooms are the cut box. Assumes nothing.
+use native.Mathlib.Omega.{arith}
 use denote.Ref.{now}
-use Rattle.sheet.specs.Layout.{lentOf}
-use Rattle.region.proofs.Contained.{cut-is}
 use borrow.Author.Needs.{needs}
+use Rattle.region.proofs.Contained.{cut-is}
 use Rattle.region.proofs.cut_box.Statement.{statement}
 use Rattle.region.proofs.cut_box.Tie as tie
 
@@ -13,7 +13,17 @@ slice-aggregate-cut-by-rooms : tie.Need-slice-aggregate-cut-by-rooms
 slice-aggregate-cut-by-rooms c = search needs
 
 cut-by-rooms-requires : tie.Need-cut-by-rooms-requires
-cut-by-rooms-requires c κs = search needs
+cut-by-rooms-requires c κs =
+    let p = c .before .before .pre in (
+      record {
+        accepted = p .accepted;
+        outline = p .outline;
+        from = p .row .from;
+        upto = omega (arith, p .row .upto, p .table .whole .few-rows);
+        shape = p .shape;
+      },
+      search needs,
+    )
 
 slice-aggregate-area-of : tie.Need-slice-aggregate-area-of
 slice-aggregate-area-of c = search needs
@@ -25,9 +35,9 @@ returns : tie.Need-returns
 returns c =
     let r = c .before .before .before in
     let e = r .before .before in
-    let s = e .before in
+    let p = e .before .pre in
     rw (c .area-of .ensures)
-    (cut-is (lentOf (now (s .args .block))) (s .pre .0 .head) (s .pre .1) (s .pre .2) (e .range-ends .ensures) (r .cut-by-rooms .ensures))
+    (cut-is (now (e .before .args .block)) (p .accepted .head) (p .table) (p .row) (e .range-ends .ensures) (r .cut-by-rooms .ensures))
 
 pub cut-box-spec : {M : Type 1} → statement M
 cut-box-spec =

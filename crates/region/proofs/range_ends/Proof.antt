@@ -13,21 +13,21 @@ use Rattle.integers.specs.Integer.{within}
 use Rattle.integers.specs.Words.{word}
 use Rattle.integers.proofs.Ints.{ints}
 use Rattle.integers.proofs.Machine.{within-by, within-weaken}
-use Rattle.sheet.specs.Layout.{Lent, lentOf, axes, low, high}
+use Rattle.sheet.specs.Layout.{axes, low, high}
 use Rattle.sheet.specs.Allowed.{inRanges}
-use Rattle.region.specs.Area.{coordinates, areaWords, areaOf}
-use Rattle.region.proofs.Sums.{bits-back}
-use Rattle.region.proofs.Fills.{Fills, fills-words, fills-ends}
+use Rattle.points.specs.Area.{coordinates, areaWords, areaOf}
+use Rattle.points.proofs.Sums.{bits-back}
+use Rattle.points.proofs.Fills.{Fills, fills-words, fills-ends}
 use Rattle.region.proofs.range_ends.Statement.{statement}
 use Rattle.region.proofs.range_ends.Tie as tie
 
 -- p lies in row i's range in dimension d
-abbrev inRange : Lent → List ℤ → ℕ → ℕ → List ℤ → Bool
-inRange lent t i d p = within (low lent t i d) (high lent t i d) (word p d)
+abbrev inRange : List ℤ → List ℤ → ℕ → ℕ → List ℤ → Bool
+inRange block t i d p = within (low block t i d) (high block t i d) (word p d)
 
 abbrev Inv-loop : tie.InvT-loop
 Inv-loop block table i k ends₀ d₀ ends d =
-    (d ≤ k) × (length ends ≡ areaWords) × Fills (axes (lentOf block)) d (areaOf ends) (inRange (lentOf block) table (i .number))
+    (d ≤ k) × (length ends ≡ areaWords) × Fills (axes (block)) d (areaOf ends) (inRange (block) table (i .number))
 
 abbrev μ-loop : tie.MeasureT-loop
 μ-loop block table i k ends₀ d₀ ends d = k - d
@@ -55,7 +55,7 @@ module _ (c : tie.In-loop Inv-loop μ-loop) where
   abbrev top : tie.Start Inv-loop μ-loop
   top = c .before .before .before
 
-  is-axis : c .before .loop .d < axes (lentOf (now (c .before .before .before .args .block)))
+  is-axis : c .before .loop .d < axes (now (c .before .before .before .args .block))
   is-axis = omega (arith, c .before .before .axes-of .ensures, c .loop-test .taken)
 
   few : c .before .loop .d < coordinates
@@ -111,7 +111,7 @@ returns : tie.Need-returns Inv-loop μ-loop
 unfolding inRanges
 returns c =
     let l = c .before in
-    let q : l .loop .d ≡ axes (lentOf (now (l .before .before .args .block))) =
+    let q : l .loop .d ≡ axes (now (l .before .before .args .block)) =
     omega (arith, l .before .axes-of .ensures, l .loop .inv .0, c .loop-test .left) in
     rw q at (l .loop .inv .2 .cuts)
 

@@ -1,40 +1,64 @@
 -- `settle::reaches` meets its contract: the rule does not name the row, or row i does not reach it. Assumes nothing.
-use mathlib.Core.Path.{sym, _∙_, subst}
+use mathlib.Core.Path.{sym, ap, _∙_, subst}
 use Prim.Native.Nat.{ℕ}
+use native.Mathlib.Numerals.{add-one}
 use native.Mathlib.Omega.{arith}
 use Rattle.integers.proofs.Booleans.{clash, not-true}
-use Rattle.sheet.specs.Layout.{lentOf}
-use Rattle.nearby.specs.Listing.{Unreached}
+use Rattle.sheet.specs.Layout.{namesRow}
+use Rattle.nearby.specs.Due.{Unreached}
 use Rattle.settle.proofs.reaches.Statement.{statement}
 use Rattle.settle.proofs.reaches.Tie as tie
+
+add-names-row : tie.Need-add-names-row
+add-names-row c = omega (arith, c .pre .2, c .pre .0 .table .whole .few-rows)
 
 names-row-requires : tie.Need-names-row-requires
 names-row-requires c κs =
     let a = c .pre .0 in
-    (a .block .head, c .pre .1, a .block .row-sets _ (c .pre .1 .below), c .pre .2, omega (arith, c .pre .3, a .table .whole .few-rows))
+    let r = c .pre .1 in
+    (a .accepted .head, r, a .accepted .row-sets _ (r .below), omega arith, omega (arith, c .pre .2, a .table .whole .few-rows))
 
 returns : tie.Need-returns
-returns c = λ e names. clash names (sym (c .before .names-row .ensures) ∙ not-true (c .if1 .taken))
+returns c e names =
+    let s = c .before .before in
+    clash names (ap (namesRow (s .args .block .now) (s .args .r .number)) (sym (add-one (s .args .m)))
+    ∙ sym (c .before .names-row .ensures) ∙ not-true (c .if1 .taken))
+
+add-row-place : tie.Need-add-row-place
+add-row-place c = let s = c .before .before in omega (arith, s .pre .2, s .pre .0 .table .whole .few-rows)
 
 row-place-requires : tie.Need-row-place-requires
 row-place-requires c κs =
     let s = c .before .before in
-    (s .pre .0 .block .head, s .pre .0 .table .whole, s .pre .2, s .pre .3)
+    (s .pre .0 .accepted .head, s .pre .0 .table .whole, omega arith, omega (arith, s .pre .2))
 
 reaches-row-requires : tie.Need-reaches-row-requires
 reaches-row-requires c κs =
     let s = c .before .before .before in
     let a = s .pre .0 in
-    (a .block, a .table, s .pre .1, a .row, c .row-place .ensures .0, a .ready)
+    record {
+      accepted = a .accepted;
+      table = a .table;
+      outline = a .outline;
+      rule = s .pre .1;
+      other = a .row;
+      row = c .row-place .ensures .0;
+    }
 
 returns-2 : tie.Need-returns-2
-returns-2 c =
+returns-2 c e names =
     let s = c .before .before .before .before in
-    λ e names.
-    subst (λ (k : ℕ). Unreached (lentOf (s .args .block .now)) (s .args .table .now) (s .args .r .number) (s .args .i .number) k)
-    (c .before .row-place .ensures .1) (c .reaches-row .ensures e)
+    subst (λ (k : ℕ). Unreached (s .args .block .now) (s .args .table .now) (s .args .r .number) (s .args .i .number) k)
+    (c .before .row-place .ensures .1 ∙ add-one (s .args .m)) (c .reaches-row .ensures e)
 
 pub reaches-spec : {M : Type 1} → statement M
 reaches-spec =
     tie.close
-    (tie.spec names-row-requires returns row-place-requires reaches-row-requires returns-2)
+    (tie.spec
+    add-names-row
+    names-row-requires
+    returns
+    add-row-place
+    row-place-requires
+    reaches-row-requires
+    returns-2)

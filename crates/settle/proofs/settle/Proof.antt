@@ -1,11 +1,9 @@
--- `settle::settle` meets its contract: it answers the refusal, or as `settle_with` does, with one of the lists. Assumes nothing.
+-- `settle::settle` meets its contract: it answers the refusal, or as `settle_in` does, with one of the lengths of suspects. Assumes nothing.
 use mathlib.Core.Path.{_≡_, sym, ap, _∙_, subst}
 use mathlib.Core.List.{List}
 use Prim.Native.Nat.{ℕ}
-use native.Mathlib.Omega.{arith}
 use borrow.Author.Needs.{needs}
 use lib.IntN.{ℤ}
-use Rattle.sheet.specs.Layout.{Lent, lentOf}
 use Rattle.sheet.specs.Refusal.{refusal}
 use Rattle.sheet.specs.Settle.{settleOf}
 use Rattle.sheet.specs.Answer.{settleAnswer, tableAfter}
@@ -31,7 +29,7 @@ returns : tie.Need-returns
 returns c =
     let d = c .before in
     let a = d .before .before .args in
-    let o = settleOf (lentOf (a .block .now)) (a .table .now) in
+    let o = settleOf (a .block .now) (a .table .now) in
     let w = answer-refused (a .table .now) o (refused (d .refusal .ensures) (d .refusal .ok) (c .if1 .taken)) in
     (ap Refused (read-back (d .refusal .ensures) (d .refusal .ok)) ∙ w .0, w .1)
 
@@ -40,33 +38,49 @@ module _ (e : tie.Else1) where
   abbrev s : tie.Start
   s = e .before .before .before
 
-  abbrev lent : Lent
-  lent = lentOf (s .args .block .now)
+  abbrev block : List ℤ
+  block = s .args .block .now
 
   abbrev t : List ℤ
   t = s .args .table .now
 
-  passed : refusal lent t ≡ 0
+  passed : refusal block t ≡ 0
   passed = accepted (e .before .refusal .ensures) (e .before .refusal .ok) (e .if1 .left)
 
-  block : Block lent
-  block = accepted-block lent t passed
+  is-block : Block block
+  is-block = accepted-block block t passed
 
-  table : Table lent t
-  table = accepted-table lent t passed
+  table : Table block t
+  table = accepted-table block t passed
 
-  promised : (r : Settling) (left : List ℤ) → Answered lent t r left → Promise lent t r left
+  promised : (r : Settling) (left : List ℤ) → Answered block t r left → Promise block t r left
   promised r left =
-      subst (λ (g : ℕ). (r ≡ settleAnswer g (settleOf lent t)) × (left ≡ tableAfter g t (settleOf lent t))) (sym passed)
+      subst (λ (g : ℕ). (r ≡ settleAnswer g (settleOf block t)) × (left ≡ tableAfter g t (settleOf block t))) (sym passed)
 
-rows-times-boxes-requires : tie.Need-rows-times-boxes-requires
-rows-times-boxes-requires c κs = let e = c .before in (block e .head, table e .whole)
+draw-requires : tie.Need-draw-requires
+draw-requires c κs = is-block (c .before)
 
-slice-aggregate-settle-with : tie.Need-slice-aggregate-settle-with
-slice-aggregate-settle-with c = search needs
+most-requires : tie.Need-most-requires
+most-requires c κs =
+    let d = c .before .before in
+    let e = d .before .before in
+    (is-block e .head, table e .whole, d .draw .ensures .rules .count)
 
-settle-with-requires : tie.Need-settle-with-requires
-settle-with-requires c κs = let e = c .before .before .before .before .before in (block e, table e, omega arith)
+-- the outline that was drawn
+module _ (m : tie.After-most) where
+  abbrev drawn : tie.After-draw
+  drawn = m .before .before .before
+
+  abbrev checked : tie.Else1
+  checked = m .before .before .before .before .before
+
+slice-aggregate-settle-in : tie.Need-slice-aggregate-settle-in
+slice-aggregate-settle-in c = search needs
+
+settle-in-requires : tie.Need-settle-in-requires
+settle-in-requires c κs =
+    let m = c .before .before .before .before in
+    (is-block (checked m), table (checked m), drawn m .draw .ensures)
 
 same-length-2 : tie.Need-same-length-2
 same-length-2 c = search needs
@@ -74,13 +88,15 @@ same-length-2 c = search needs
 returns-2 : tie.Need-returns-2
 returns-2 c =
     let w = c .before .before in
-    promised (w .before .before .before .before .before .before) (w .settle-with .result) (w .settle-with .last .1 .0) (w .settle-with .ensures)
+    promised (checked (w .before .before .before .before .before)) (w .settle-in .result) (w .settle-in .last .1 .0) (w .settle-in .ensures)
 
-slice-aggregate-settle-with-2 : tie.Need-slice-aggregate-settle-with-2
-slice-aggregate-settle-with-2 c = search needs
+slice-aggregate-settle-in-2 : tie.Need-slice-aggregate-settle-in-2
+slice-aggregate-settle-in-2 c = search needs
 
-settle-with-requires-2 : tie.Need-settle-with-requires-2
-settle-with-requires-2 c κs = let e = c .before .before .before .before .before .before in (block e, table e, omega arith)
+settle-in-requires-2 : tie.Need-settle-in-requires-2
+settle-in-requires-2 c κs =
+    let m = c .before .before .before .before in
+    (is-block (checked m), table (checked m), drawn m .draw .ensures)
 
 same-length-3 : tie.Need-same-length-3
 same-length-3 c = search needs
@@ -88,23 +104,7 @@ same-length-3 c = search needs
 returns-3 : tie.Need-returns-3
 returns-3 c =
     let w = c .before .before in
-    promised (w .before .before .before .before .before .before .before) (w .settle-with2 .result) (w .settle-with2 .last .1 .0)
-    (w .settle-with2 .ensures)
-
-slice-aggregate-settle-with-3 : tie.Need-slice-aggregate-settle-with-3
-slice-aggregate-settle-with-3 c = search needs
-
-settle-with-requires-3 : tie.Need-settle-with-requires-3
-settle-with-requires-3 c κs = let e = c .before .before .before .before .before .before in (block e, table e, omega arith)
-
-same-length-4 : tie.Need-same-length-4
-same-length-4 c = search needs
-
-returns-4 : tie.Need-returns-4
-returns-4 c =
-    let w = c .before .before in
-    promised (w .before .before .before .before .before .before .before) (w .settle-with3 .result) (w .settle-with3 .last .1 .0)
-    (w .settle-with3 .ensures)
+    promised (checked (w .before .before .before .before .before)) (w .settle-in2 .result) (w .settle-in2 .last .1 .0) (w .settle-in2 .ensures)
 
 pub settle-spec : {M : Type 1} → statement M
 settle-spec =
@@ -113,16 +113,13 @@ settle-spec =
     refusal-requires
     same-length
     returns
-    rows-times-boxes-requires
-    slice-aggregate-settle-with
-    settle-with-requires
+    draw-requires
+    most-requires
+    slice-aggregate-settle-in
+    settle-in-requires
     same-length-2
     returns-2
-    slice-aggregate-settle-with-2
-    settle-with-requires-2
+    slice-aggregate-settle-in-2
+    settle-in-requires-2
     same-length-3
-    returns-3
-    slice-aggregate-settle-with-3
-    settle-with-requires-3
-    same-length-4
-    returns-4)
+    returns-3)

@@ -2,26 +2,23 @@
 use mathlib.Core.Path.{_≡_, refl, sym, ap, _∙_, subst}
 use mathlib.Core.Logic.{⊎-elim}
 use Prim.Native.Nat.{ℕ, _+_, _-_, _≤_}
-use native.Mathlib.Numerals.{add-one}
 use native.Mathlib.Omega.{arith}
 use lib.ListN.{length, length-set}
 use Rattle.integers.proofs.Booleans.{clash}
-use Rattle.sheet.specs.Layout.{lentOf, namesRow}
-use Rattle.nearby.specs.Listing.{Unreached}
-use Rattle.settle.specs.Todo.{Spared}
+use Rattle.settle.specs.Todo.{rowsMost, Spared}
 use Rattle.settle.proofs.Turns.{todo-taken, Setting, setting-start, setting-stay, setting-put, setting-done}
 use Rattle.settle.proofs.touched_by.Statement.{statement}
 use Rattle.settle.proofs.touched_by.Tie as tie
 
 abbrev Inv-loop : tie.InvT-loop
-Inv-loop block table list due₀ i n r m₀ due m =
-    (m ≤ n) × Setting due₀ (Spared (lentOf block) table (i .number) (r .number)) m due × (length due ≡ length due₀)
+Inv-loop block table outline due₀ i n r m₀ due m =
+    (m ≤ n) × Setting due₀ (Spared block table (i .number) (r .number)) m due × (length due ≡ length due₀)
 
 abbrev μ-loop : tie.MeasureT-loop
-μ-loop block table list due₀ i n r m₀ due m = n - m
+μ-loop block table outline due₀ i n r m₀ due m = n - m
 
-few : (s : tie.Start Inv-loop μ-loop) → s .args .n ≤ 32
-few s = omega (arith, s .pre .1, s .pre .0 .table .whole .few-rows)
+few : (s : tie.Start Inv-loop μ-loop) → s .args .n ≤ rowsMost
+few s = omega (arith, s .pre .0 .count, s .pre .0 .on .table .whole .few-rows)
 
 loop-holds : tie.Need-loop-holds Inv-loop μ-loop
 loop-holds c = (omega arith, setting-start, refl)
@@ -30,15 +27,12 @@ mul-if1 : tie.Need-mul-if1 Inv-loop μ-loop
 mul-if1 c = omega (arith, few (c .before .before))
 
 slice-copy-out-if1 : tie.Need-slice-copy-out-if1 Inv-loop μ-loop
-slice-copy-out-if1 c = omega (arith, few (c .before .before), c .before .before .pre .3)
-
-add-reaches : tie.Need-add-reaches Inv-loop μ-loop
-add-reaches c = omega (arith, few (c .before .before .before .before))
+slice-copy-out-if1 c = omega (arith, few (c .before .before), c .before .before .pre .0 .long)
 
 reaches-requires : tie.Need-reaches-requires Inv-loop μ-loop
 reaches-requires c κs =
     let s = c .before .before .before .before in
-    (s .pre .0, s .pre .2, omega arith, omega (arith, s .pre .1, c .before .before .loop-test .taken))
+    (s .pre .0 .on, s .pre .1, omega (arith, s .pre .0 .count, c .before .before .loop-test .taken))
 
 mul-due : tie.Need-mul-due Inv-loop μ-loop
 mul-due c = omega (arith, few (c .before .before .before .before .before .before))
@@ -46,7 +40,7 @@ mul-due c = omega (arith, few (c .before .before .before .before .before .before
 slice-set-of-due : tie.Need-slice-set-of-due Inv-loop μ-loop
 slice-set-of-due c =
     let s = c .before .before .before .before .before .before in
-    omega (arith, few s, s .pre .3)
+    omega (arith, few s, s .pre .0 .long)
 
 add-m : tie.Need-add-m Inv-loop μ-loop
 add-m c = omega (arith, few (c .before .before .before .before))
@@ -58,17 +52,15 @@ loop-again : tie.Need-loop-again Inv-loop μ-loop
 loop-again c =
     let l = c .before .before .before in
     let a = l .before .args in
-    let lent = lentOf (a .block .now) in
-    let next = Setting (a .due .now) (Spared lent (a .table .now) (a .i .number) (a .r .number)) (l .loop .m + 1) in
+    let block = a .block .now in
+    let next = Setting (a .due .now) (Spared block (a .table .now) (a .i .number) (a .r .number)) (l .loop .m + 1) in
     let long = l .loop .inv .2 in
     let now-set = l .loop .inv .1 in (
       omega arith,
       ⊎-elim
-          (λ x. subst next (sym (x .3)) (setting-put now-set (omega (arith, long, l .before .pre .3, few (l .before)))))
+          (λ x. subst next (sym (x .3)) (setting-put now-set (omega (arith, long, l .before .pre .0 .long, few (l .before)))))
           (⊎-elim
-          (λ x. subst next (sym (x .3)) (setting-stay now-set (λ e kind names-i names.
-          subst (λ (k : ℕ). Unreached lent (a .table .now) (a .r .number) (a .i .number) k) (add-one (l .loop .m))
-          (x .1 .ensures (x .2 .left) (ap (namesRow lent (a .r .number)) (add-one (l .loop .m)) ∙ names)))))
+          (λ x. subst next (sym (x .3)) (setting-stay now-set (λ e kind names-i names. x .1 .ensures (x .2 .left) names)))
           (λ x. subst next (sym (x .1)) (setting-stay now-set
           (λ e. clash (todo-taken (l .loop .due) (l .loop .m) (c .before .if12 .given) (x .0 .left)) e))))
           (c .if1 .came),
@@ -93,7 +85,6 @@ touched-by-spec =
     loop-holds
     mul-if1
     slice-copy-out-if1
-    add-reaches
     reaches-requires
     mul-due
     slice-set-of-due

@@ -7,8 +7,9 @@ use borrow.Author.Needs.{needs}
 use lib.IntN.{+ℤ-idl}
 use lib.ListN.{length}
 use Rattle.integers.proofs.Machine.{bnd, num, _-ʷ_, diff-fits, exact}
+use Rattle.points.specs.Area.{coordinates}
 use Rattle.sweep.specs.Point.{mirror}
-use Rattle.sweep.specs.Rotation.{axes}
+use Rattle.sweep.specs.Rotation.{}
 use Rattle.sweep.proofs.Points.{Made, made-none, made-more, made-all}
 use Rattle.sweep.proofs.Mirror.{length-mirror, word-mirror}
 use Rattle.sweep.proofs.mirrored.Statement.{statement}
@@ -18,7 +19,7 @@ abbrev Inv-loop : tie.InvT-loop
 Inv-loop p q₀ e₀ q e = Made p (mirror p) q e
 
 abbrev μ-loop : tie.MeasureT-loop
-μ-loop p q₀ e₀ q e = axes - e
+μ-loop p q₀ e₀ q e = coordinates - e
 
 loop-holds : tie.Need-loop-holds Inv-loop μ-loop
 loop-holds c = made-none (length-mirror _)

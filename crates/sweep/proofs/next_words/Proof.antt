@@ -6,8 +6,9 @@ use native.Mathlib.Omega.{arith}
 use borrow.Author.Needs.{needs}
 use lib.ListN.{length}
 use Rattle.integers.proofs.Machine.{bnd, num, _+ʷ_, exact}
+use Rattle.points.specs.Area.{coordinates}
 use Rattle.sweep.specs.Point.{nexts}
-use Rattle.sweep.specs.Rotation.{axes}
+use Rattle.sweep.specs.Rotation.{}
 use Rattle.sweep.proofs.Points.{near-fits, Made, made-none, made-more, made-all, length-nexts, word-nexts}
 use Rattle.sweep.proofs.next_words.Statement.{statement}
 use Rattle.sweep.proofs.next_words.Tie as tie
@@ -16,7 +17,7 @@ abbrev Inv-loop : tie.InvT-loop
 Inv-loop p q₀ e₀ q e = Made p (nexts p) q e
 
 abbrev μ-loop : tie.MeasureT-loop
-μ-loop p q₀ e₀ q e = axes - e
+μ-loop p q₀ e₀ q e = coordinates - e
 
 loop-holds : tie.Need-loop-holds Inv-loop μ-loop
 loop-holds c = made-none (length-nexts _)

@@ -3,7 +3,7 @@ use mathlib.Core.Path.{_≡_, refl}
 use Prim.Native.Nat.{_+_, _*_}
 use native.Mathlib.Omega.{arith}
 use denote.Ref.{now}
-use Rattle.sheet.specs.Layout.{lentOf, boxAt}
+use Rattle.sheet.specs.Layout.{boxAt}
 use Rattle.words.proofs.Ends.{box-at, box-at-ends}
 use borrow.Author.Needs.{needs}
 use Rattle.words.proofs.box_place.Statement.{statement}
@@ -11,7 +11,7 @@ use Rattle.words.proofs.box_place.Tie as tie
 
 -- the code's position
 is : (c : tie.After-dims-of)
-    → 3 + c .before .args .b * (1 + 2 * c .dims-of .result) ≡ boxAt (lentOf (now (c .before .args .block))) (c .before .args .b)
+    → 3 + c .before .args .b * (1 + 2 * c .dims-of .result) ≡ boxAt (now (c .before .args .block)) (c .before .args .b)
 is c = rw (c .dims-of .ensures) (box-at _ (c .before .args .b))
 
 dims-of-requires : tie.Need-dims-of-requires

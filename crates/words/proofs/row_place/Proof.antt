@@ -3,14 +3,14 @@ use mathlib.Core.Path.{_≡_, refl}
 use Prim.Native.Nat.{_-_, _*_}
 use native.Mathlib.Omega.{arith}
 use denote.Ref.{now}
-use Rattle.sheet.specs.Layout.{lentOf, rowAt}
+use Rattle.sheet.specs.Layout.{rowAt}
 use Rattle.words.proofs.Ends.{row-at, row-at-ends}
 use borrow.Author.Needs.{needs}
 use Rattle.words.proofs.row_place.Statement.{statement}
 use Rattle.words.proofs.row_place.Tie as tie
 
 -- the code's position
-is : (c : tie.After-row-len) → (c .before .args .i - 1) * c .row-len .result ≡ rowAt (lentOf (now (c .before .args .block))) (c .before .args .i)
+is : (c : tie.After-row-len) → (c .before .args .i - 1) * c .row-len .result ≡ rowAt (now (c .before .args .block)) (c .before .args .i)
 is c = rw (c .row-len .ensures) (row-at _ (c .before .args .i) (c .before .pre .2))
 
 row-len-requires : tie.Need-row-len-requires

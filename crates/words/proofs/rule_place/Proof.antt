@@ -3,7 +3,7 @@ use mathlib.Core.Path.{_≡_, refl}
 use Prim.Native.Nat.{_+_, _*_}
 use native.Mathlib.Omega.{arith}
 use denote.Ref.{now}
-use Rattle.sheet.specs.Layout.{lentOf, ruleAt}
+use Rattle.sheet.specs.Layout.{ruleAt}
 use Rattle.words.proofs.Ends.{rule-at, rule-at-ends}
 use borrow.Author.Needs.{needs}
 use Rattle.words.proofs.rule_place.Statement.{statement}
@@ -12,7 +12,7 @@ use Rattle.words.proofs.rule_place.Tie as tie
 -- the code's position
 is : (c : tie.After-boxes-of)
     → 3 + c .boxes-of .result * (1 + 2 * c .before .dims-of .result) + c .before .before .args .r * (3 + 2 * c .before .dims-of .result)
-    ≡ ruleAt (lentOf (now (c .before .before .args .block))) (c .before .before .args .r)
+    ≡ ruleAt (now (c .before .before .args .block)) (c .before .before .args .r)
 is c = rw (c .boxes-of .ensures, c .before .dims-of .ensures) (rule-at _ (c .before .before .args .r))
 
 dims-of-requires : tie.Need-dims-of-requires

@@ -1,9 +1,10 @@
 -- `accept::block::bad_block_length` meets its contract: the counts are small, so that the length fits. Assumes nothing.
 use Prim.Native.Nat.{_+_, _*_, _≤_}
 use native.Mathlib.Omega.{arith}
+use Rattle.sheet.proofs.Accepted.{counted}
 use Rattle.sheet.specs.Layout.{dims, boxes, rules, blockLen, boxLen, ruleLen}
 use Rattle.sheet.specs.Refusal.{badBlockLength}
-use Rattle.accept.proofs.Opening.{counted, opening, few-dims, box-words, rule-words}
+use Rattle.accept.proofs.Opening.{opening, few-dims, box-words, rule-words}
 use Rattle.accept.proofs.block.bad_block_length.Statement.{statement}
 use Rattle.accept.proofs.block.bad_block_length.Tie as tie
 

@@ -7,20 +7,20 @@ use borrow.Author.Needs.{needs}
 use denote.Ref.{now}
 use Rattle.integers.specs.Below.{allBelow}
 use Rattle.integers.proofs.Below.{all-zero, all-false}
-use Rattle.sheet.specs.Layout.{lentOf, validBox}
+use Rattle.sheet.specs.Layout.{validBox}
 use Rattle.sheet.specs.Refusal.{badBox}
 use Rattle.accept.proofs.Turns.{fails-by, passes-by, all-next, all-done}
 use Rattle.accept.proofs.block.bad_box.Statement.{statement}
 use Rattle.accept.proofs.block.bad_box.Tie as tie
 
 abbrev Inv-loop : tie.InvT-loop
-Inv-loop block n b₀ b = (b ≤ n) × (allBelow b (validBox (lentOf block)) ≡ true)
+Inv-loop block n b₀ b = (b ≤ n) × (allBelow b (validBox (block)) ≡ true)
 
 abbrev μ-loop : tie.MeasureT-loop
 μ-loop block n b₀ b = n - b
 
 answer : (c : tie.After-valid-box Inv-loop μ-loop) → let l = c .before .before .before in
-    c .valid-box .result ≡ validBox (lentOf (now (l .before .before .args .block))) (l .loop .b)
+    c .valid-box .result ≡ validBox (now (l .before .before .args .block)) (l .loop .b)
 answer c = c .valid-box .ensures ∙ ap (validBox _) (c .before .box-place .ensures .1)
 
 boxes-of-requires : tie.Need-boxes-of-requires Inv-loop μ-loop

@@ -7,20 +7,20 @@ use borrow.Author.Needs.{needs}
 use denote.Ref.{now}
 use Rattle.integers.specs.Below.{allBelow}
 use Rattle.integers.proofs.Below.{all-zero, all-false}
-use Rattle.sheet.specs.Layout.{lentOf, validRule, rows}
+use Rattle.sheet.specs.Layout.{validRule, rows}
 use Rattle.sheet.specs.Refusal.{badRule}
 use Rattle.accept.proofs.Turns.{fails-by, passes-by, all-next, all-done}
 use Rattle.accept.proofs.block.bad_rule.Statement.{statement}
 use Rattle.accept.proofs.block.bad_rule.Tie as tie
 
 abbrev Inv-loop : tie.InvT-loop
-Inv-loop block table n m r₀ r = (r ≤ m) × (allBelow r (validRule (lentOf block) (rows (lentOf block) table)) ≡ true)
+Inv-loop block table n m r₀ r = (r ≤ m) × (allBelow r (validRule (block) (rows (block) table)) ≡ true)
 
 abbrev μ-loop : tie.MeasureT-loop
 μ-loop block table n m r₀ r = m - r
 
 answer : (c : tie.After-valid-rule Inv-loop μ-loop) → let l = c .before .before .before in let a = l .before .before .before .args in
-    c .valid-rule .result ≡ validRule (lentOf (now (a .block))) (rows (lentOf (now (a .block))) (now (a .table))) (l .loop .r)
+    c .valid-rule .result ≡ validRule (now (a .block)) (rows (now (a .block)) (now (a .table))) (l .loop .r)
 answer c =
     let l = c .before .before .before in
     c .valid-rule .ensures ∙ ap₂ (validRule _) (l .before .before .rows-of .ensures) (c .before .rule-place .ensures .1)

@@ -4,13 +4,13 @@ use borrow.Author.Needs.{needs}
 use denote.Ref.{now}
 use lib.IntN.{pos}
 use Rattle.integers.specs.Integer.{within}
-use Rattle.sheet.specs.Layout.{lentOf, shapeOf, validBox}
+use Rattle.sheet.specs.Layout.{shapeOf, validBox}
 use Rattle.words.proofs.Reading.{read-back}
 use Rattle.accept.proofs.block.valid_box.Statement.{statement}
 use Rattle.accept.proofs.block.valid_box.Tie as tie
 
 shape-in : (c : tie.After-is-within) → let a = c .before .before .args in
-    c .is-within .result ≡ within (pos 1) (pos 32) (shapeOf (lentOf (now (a .block))) (a .b .number))
+    c .is-within .result ≡ within (pos 1) (pos 32) (shapeOf (now (a .block)) (a .b .number))
 shape-in c = c .is-within .ensures ∙ ap (within (pos 1) (pos 32)) (read-back (c .before .shape-of .ensures) (c .before .shape-of .ok))
 
 shape-of-requires : tie.Need-shape-of-requires

@@ -5,18 +5,18 @@ use borrow.Author.Needs.{needs}
 use denote.Ref.{now}
 use lib.IntN.{ℤ, pos}
 use Rattle.integers.specs.Integer.{eqZ}
-use Rattle.sheet.specs.Layout.{lentOf, isContainment, namesDim, validEnds, roomLow}
+use Rattle.sheet.specs.Layout.{isContainment, namesDim, validEnds, roomLow}
 use Rattle.words.proofs.Reading.{read-back}
 use Rattle.accept.specs.Parts.{validRange}
 use Rattle.accept.proofs.block.valid_ends.Statement.{statement}
 use Rattle.accept.proofs.block.valid_ends.Tie as tie
 
 no-room : (c : tie.Else1) → let a = c .before .before .args in
-    (isContainment (lentOf (now (a .block))) (a .r .number) && namesDim (lentOf (now (a .block))) (a .r .number) (a .d)) ≡ false
+    (isContainment (now (a .block)) (a .r .number) && namesDim (now (a .block)) (a .r .number) (a .d)) ≡ false
 no-room c = sym (c .before .has-room .ensures) ∙ c .if1 .left
 
 low-zero : (c : tie.After-is-equal) → let a = c .before .before .before .before .args in
-    c .is-equal .result ≡ eqZ (roomLow (lentOf (now (a .block))) (a .r .number) (a .d)) (pos 0)
+    c .is-equal .result ≡ eqZ (roomLow (now (a .block)) (a .r .number) (a .d)) (pos 0)
 low-zero c = c .is-equal .ensures ∙ ap (λ (z : ℤ). eqZ z (pos 0)) (read-back (c .before .room-low2 .ensures) (c .before .room-low2 .ok))
 
 has-room-requires : tie.Need-has-room-requires

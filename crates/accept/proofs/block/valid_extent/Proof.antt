@@ -4,13 +4,13 @@ use borrow.Author.Needs.{needs}
 use denote.Ref.{now}
 use lib.IntN.{pos}
 use Rattle.integers.specs.Integer.{minus, within}
-use Rattle.sheet.specs.Layout.{lentOf, offset}
+use Rattle.sheet.specs.Layout.{offset}
 use Rattle.words.proofs.Reading.{read-back}
 use Rattle.accept.proofs.block.valid_extent.Statement.{statement}
 use Rattle.accept.proofs.block.valid_extent.Tie as tie
 
 offset-in : (c : tie.After-is-within) → let a = c .before .before .args in
-    c .is-within .result ≡ within (minus 10000) (pos 10000) (offset (lentOf (now (a .block))) (a .b .number) (a .d))
+    c .is-within .result ≡ within (minus 10000) (pos 10000) (offset (now (a .block)) (a .b .number) (a .d))
 offset-in c = c .is-within .ensures ∙ ap (within (minus 10000) (pos 10000)) (read-back (c .before .offset-of .ensures) (c .before .offset-of .ok))
 
 offset-of-requires : tie.Need-offset-of-requires

@@ -6,14 +6,13 @@ use native.Mathlib.Omega.{arith}
 use borrow.Author.Needs.{needs}
 use Rattle.integers.specs.Below.{allBelow}
 use Rattle.integers.proofs.Below.{all-zero, all-false}
-use Rattle.sheet.specs.Layout.{lentOf}
 use Rattle.accept.specs.Parts.{validExtent}
 use Rattle.accept.proofs.Turns.{fails-by, passes-by, all-next, all-done}
 use Rattle.accept.proofs.block.valid_extents.Statement.{statement}
 use Rattle.accept.proofs.block.valid_extents.Tie as tie
 
 abbrev Inv-loop : tie.InvT-loop
-Inv-loop block b k d₀ d = (d ≤ k) × (allBelow d (validExtent (lentOf block) (b .number)) ≡ true)
+Inv-loop block b k d₀ d = (d ≤ k) × (allBelow d (validExtent (block) (b .number)) ≡ true)
 
 abbrev μ-loop : tie.MeasureT-loop
 μ-loop block b k d₀ d = k - d

@@ -6,13 +6,13 @@ use native.Mathlib.Omega.{arith}
 use borrow.Author.Needs.{needs}
 use Rattle.integers.specs.Below.{allBelow}
 use Rattle.integers.proofs.Below.{all-zero, all-false}
-use Rattle.sheet.specs.Layout.{lentOf, validEnds}
+use Rattle.sheet.specs.Layout.{validEnds}
 use Rattle.accept.proofs.Turns.{fails-by, passes-by, all-next, all-done}
 use Rattle.accept.proofs.block.valid_rooms.Statement.{statement}
 use Rattle.accept.proofs.block.valid_rooms.Tie as tie
 
 abbrev Inv-loop : tie.InvT-loop
-Inv-loop block r k d₀ d = (d ≤ k) × (allBelow d (validEnds (lentOf block) (r .number)) ≡ true)
+Inv-loop block r k d₀ d = (d ≤ k) × (allBelow d (validEnds (block) (r .number)) ≡ true)
 
 abbrev μ-loop : tie.MeasureT-loop
 μ-loop block r k d₀ d = k - d

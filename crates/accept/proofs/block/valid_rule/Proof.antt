@@ -6,40 +6,40 @@ use native.Mathlib.Omega.{arith}
 use borrow.Author.Needs.{needs}
 use denote.Ref.{now}
 use lib.IntN.{ℤ, pos}
+use Rattle.sheet.proofs.Accepted.{counted}
 use Rattle.integers.specs.Integer.{within}
 use Rattle.integers.proofs.Sets.{full-le}
-use Rattle.sheet.specs.Layout.{lentOf, dims, kind, isNonOverlap, isContainment, dimSet, rowSet, validRule}
+use Rattle.sheet.specs.Layout.{dims, kind, isNonOverlap, isContainment, dimSet, rowSet, validRule}
 use Rattle.words.proofs.Reading.{read-back}
 use Rattle.accept.proofs.Turns.{fails-by, passes-by}
-use Rattle.accept.proofs.Opening.{counted}
 use Rattle.accept.proofs.Tests.{kinds}
 use Rattle.accept.proofs.block.valid_rule.Statement.{statement}
 use Rattle.accept.proofs.block.valid_rule.Tie as tie
 
 -- what each call answers, of the rule's words
 kind-in : (c : tie.After-is-within) → let a = c .before .before .args in
-    c .is-within .result ≡ within (pos 1) (pos 2) (kind (lentOf (now (a .block))) (a .r .number))
+    c .is-within .result ≡ within (pos 1) (pos 2) (kind (now (a .block)) (a .r .number))
 kind-in c = c .is-within .ensures ∙ ap (within (pos 1) (pos 2)) (read-back (c .before .kind-of .ensures) (c .before .kind-of .ok))
 
 dim-set-in : (c : tie.After-valid-set) → let a = c .before .before .before .before .before .before .args in
-    c .valid-set .result ≡ within (pos 1) (pos (2 ^ dims (lentOf (now (a .block))) - 1)) (dimSet (lentOf (now (a .block))) (a .r .number))
+    c .valid-set .result ≡ within (pos 1) (pos (2 ^ dims (now (a .block)) - 1)) (dimSet (now (a .block)) (a .r .number))
 dim-set-in c =
     c .valid-set .ensures
     ∙ ap₂ (λ (k : ℕ) (z : ℤ). within (pos 1) (pos (2 ^ k - 1)) z) (c .before .dims-of .ensures)
     (read-back (c .before .before .dim-set-of .ensures) (c .before .before .dim-set-of .ok))
 
 row-set-in : (c : tie.After-valid-set2) → let a = c .before .before .before .before .before .before .before .before .before .args in
-    c .valid-set2 .result ≡ within (pos 1) (pos (2 ^ a .n - 1)) (rowSet (lentOf (now (a .block))) (a .r .number))
+    c .valid-set2 .result ≡ within (pos 1) (pos (2 ^ a .n - 1)) (rowSet (now (a .block)) (a .r .number))
 row-set-in c =
     c .valid-set2 .ensures ∙ ap (within (pos 1) (pos (2 ^ _ - 1))) (read-back (c .before .row-set-of .ensures) (c .before .row-set-of .ok))
 
 -- what the tests that passed say
 kind-passed : (c : tie.Else1) → let a = c .before .before .before .args in
-    (isNonOverlap (lentOf (now (a .block))) (a .r .number) || isContainment (lentOf (now (a .block))) (a .r .number)) ≡ true
+    (isNonOverlap (now (a .block)) (a .r .number) || isContainment (now (a .block)) (a .r .number)) ≡ true
 kind-passed c = sym (kinds _ _) ∙ passes-by (kind-in (c .before)) (c .if1 .left)
 
 dim-set-passed : (c : tie.Else2) → let a = c .before .before .before .before .before .before .before .args in
-    within (pos 1) (pos (2 ^ dims (lentOf (now (a .block))) - 1)) (dimSet (lentOf (now (a .block))) (a .r .number)) ≡ true
+    within (pos 1) (pos (2 ^ dims (now (a .block)) - 1)) (dimSet (now (a .block)) (a .r .number)) ≡ true
 dim-set-passed c = passes-by (dim-set-in (c .before)) (c .if2 .left)
 
 kind-of-requires : tie.Need-kind-of-requires
@@ -82,7 +82,7 @@ valid-rooms-requires c κs =
     let e = c .before .before .before in
     let f = e .before .before .before .before in
     let s = f .before .before .before in
-    let few : dims (lentOf (now (s .args .block))) ≤ 32 = omega (arith, s .pre .0 .few-dims) in
+    let few : dims (now (s .args .block)) ≤ 32 = omega (arith, s .pre .0 .few-dims) in
     let k = passes-by (kind-in (f .before)) (f .if1 .left) in
     (s .pre .0, s .pre .1, counted 1 2 (omega arith) k, counted 1 _ (full-le few) (dim-set-passed e))
 

@@ -7,20 +7,20 @@ use borrow.Author.Needs.{needs}
 use denote.Ref.{now}
 use Rattle.integers.specs.Below.{allUpTo}
 use Rattle.integers.proofs.Below.{all-zero}
-use Rattle.sheet.specs.Layout.{lentOf, validRow}
+use Rattle.sheet.specs.Layout.{validRow}
 use Rattle.sheet.specs.Refusal.{badRow}
 use Rattle.accept.proofs.Turns.{fails-by, passes-by, upto-next, upto-false, all-done}
 use Rattle.accept.proofs.table.bad_row.Statement.{statement}
 use Rattle.accept.proofs.table.bad_row.Tie as tie
 
 abbrev Inv-loop : tie.InvT-loop
-Inv-loop block table n flags i₀ i = (i ≤ n) × (allUpTo i (validRow (lentOf block) table) ≡ true)
+Inv-loop block table n flags i₀ i = (i ≤ n) × (allUpTo i (validRow (block) table) ≡ true)
 
 abbrev μ-loop : tie.MeasureT-loop
 μ-loop block table n flags i₀ i = n - i
 
 abbrev test : tie.At-loop Inv-loop μ-loop → ℕ → Bool
-test c = let a = c .before .before .before .args in validRow (lentOf (now (a .block))) (now (a .table))
+test c = let a = c .before .before .before .args in validRow (now (a .block)) (now (a .table))
 
 answer : (c : tie.After-valid-row Inv-loop μ-loop) → let l = c .before .before .before in c .valid-row .result ≡ test l (l .loop .i + 1)
 answer c = c .valid-row .ensures ∙ ap (test (c .before .before .before)) (c .before .row-place .ensures .1)

@@ -3,7 +3,6 @@ use native.Mathlib.Omega.{arith}
 use borrow.Author.Tests.{eq-eqb, ne-eqb, lt-ltb, lt-leb, le-leb}
 use borrow.Author.Needs.{needs}
 use denote.Ref.{now}
-use Rattle.sheet.specs.Layout.{lentOf}
 use Rattle.sheet.specs.Refusal.{badTableLength}
 use Rattle.accept.proofs.Tests.{rows-fit, ltb-not-leb}
 use Rattle.accept.proofs.table.bad_table_length.Statement.{statement}
@@ -18,7 +17,7 @@ rows-of-requires c κs = search needs
 mul-if1 : tie.Need-mul-if1
 mul-if1 c =
     let a = c .before .before .args in
-    rw (c .rows-of .ensures, c .before .row-len .ensures) (omega (arith, rows-fit (lentOf (now (a .block))) (now (a .table))))
+    rw (c .rows-of .ensures, c .before .row-len .ensures) (omega (arith, rows-fit (now (a .block)) (now (a .table))))
 
 returns : tie.Need-returns
 unfolding badTableLength

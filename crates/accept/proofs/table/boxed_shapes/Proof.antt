@@ -6,23 +6,23 @@ use native.Mathlib.Omega.{arith}
 use borrow.Author.Needs.{needs}
 use denote.Ref.{now}
 use lib.IntN.{pos}
+use Rattle.sheet.proofs.Accepted.{counted}
 use Rattle.integers.specs.Integer.{within}
 use Rattle.integers.proofs.Ranges.{nat-from}
-use Rattle.sheet.specs.Layout.{lentOf, shapeOf}
-use Rattle.accept.proofs.Opening.{counted}
+use Rattle.sheet.specs.Layout.{shapeOf}
 use Rattle.accept.proofs.Marks.{box-shape, Marks, marks-none, marks-flags, marks-next}
 use Rattle.accept.proofs.table.boxed_shapes.Statement.{statement}
 use Rattle.accept.proofs.table.boxed_shapes.Tie as tie
 
 abbrev Inv-loop : tie.InvT-loop
-Inv-loop block n flags₀ b₀ flags b = (b ≤ n) × Marks (lentOf block) b flags
+Inv-loop block n flags₀ b₀ flags b = (b ≤ n) × Marks (block) b flags
 
 abbrev μ-loop : tie.MeasureT-loop
 μ-loop block n flags₀ b₀ flags b = n - b
 
 -- check 6 has passed: the box's shape is from 1 to 32
 shape-in : (c : tie.After-box-place Inv-loop μ-loop)
-    → within (pos 1) (pos 32) (shapeOf (lentOf (now (c .before .before .before .before .args .block))) (c .box-place .result .number)) ≡ true
+    → within (pos 1) (pos 32) (shapeOf (now (c .before .before .before .before .args .block)) (c .box-place .result .number)) ≡ true
 shape-in c = box-shape _ (c .before .before .before .before .pre .1) (c .box-place .ensures .0 .below)
 
 boxes-of-requires : tie.Need-boxes-of-requires Inv-loop μ-loop

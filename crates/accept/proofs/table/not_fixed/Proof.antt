@@ -7,7 +7,6 @@ use borrow.Author.Needs.{needs}
 use denote.Ref.{now}
 use Rattle.integers.specs.Below.{allUpTo}
 use Rattle.integers.proofs.Below.{all-zero}
-use Rattle.sheet.specs.Layout.{lentOf}
 use Rattle.sheet.specs.Placement.{rowFixed, fixed}
 use Rattle.sheet.specs.Refusal.{notFixed}
 use Rattle.accept.proofs.Turns.{fails-by, passes-by, upto-next, upto-false, all-done}
@@ -16,13 +15,13 @@ use Rattle.accept.proofs.table.not_fixed.Statement.{statement}
 use Rattle.accept.proofs.table.not_fixed.Tie as tie
 
 abbrev Inv-loop : tie.InvT-loop
-Inv-loop block table n i₀ i = (i ≤ n) × (allUpTo i (rowFixed (lentOf block) table) ≡ true)
+Inv-loop block table n i₀ i = (i ≤ n) × (allUpTo i (rowFixed (block) table) ≡ true)
 
 abbrev μ-loop : tie.MeasureT-loop
 μ-loop block table n i₀ i = n - i
 
 abbrev test : tie.At-loop Inv-loop μ-loop → ℕ → Bool
-test c = let a = c .before .before .args in rowFixed (lentOf (now (a .block))) (now (a .table))
+test c = let a = c .before .before .args in rowFixed (now (a .block)) (now (a .table))
 
 answer : (c : tie.After-row-fixed Inv-loop μ-loop) → let l = c .before .before .before in c .row-fixed .result ≡ test l (l .loop .i + 1)
 answer c = c .row-fixed .ensures ∙ ap (test (c .before .before .before)) (c .before .row-place .ensures .1)

@@ -8,14 +8,14 @@ use lib.Count.{ones}
 use lib.Dec.{eqb}
 use Rattle.integers.specs.Below.{anyUpTo}
 use Rattle.integers.proofs.Sets.{set-below}
-use Rattle.sheet.specs.Layout.{lentOf, hasOnly}
+use Rattle.sheet.specs.Layout.{hasOnly}
 use Rattle.sheet.specs.Placement.{rowFixed}
 use Rattle.accept.proofs.Tests.{one-shape}
 use Rattle.accept.proofs.table.row_fixed.Statement.{statement}
 use Rattle.accept.proofs.table.row_fixed.Tie as tie
 
 one : (c : tie.After-shapes-of) → let a = c .before .args in
-    eqb (ones (c .shapes-of .result)) 1 ≡ anyUpTo 32 (hasOnly (lentOf (now (a .block))) (now (a .table)) (a .i .number))
+    eqb (ones (c .shapes-of .result)) 1 ≡ anyUpTo 32 (hasOnly (now (a .block)) (now (a .table)) (a .i .number))
 unfolding hasOnly
 one c = ap (λ (n : ℕ). eqb (ones n) 1) (c .shapes-of .ensures) ∙ one-shape _ (set-below 32 (c .before .pre .3 .upto))
 

@@ -9,7 +9,6 @@ use denote.Ref.{now}
 use Rattle.integers.specs.Below.{allUpTo}
 use Rattle.integers.proofs.Booleans.{implies-out}
 use Rattle.integers.proofs.Below.{all-zero, upto-at, at-upto, below-or}
-use Rattle.sheet.specs.Layout.{lentOf}
 use Rattle.words.proofs.Shapes.{none-past}
 use Rattle.accept.specs.Parts.{boxed, shapeBoxed}
 use Rattle.accept.proofs.Turns.{fails-by, passes-by, upto-next, upto-false, all-done}
@@ -17,13 +16,13 @@ use Rattle.accept.proofs.table.shapes_boxed.Statement.{statement}
 use Rattle.accept.proofs.table.shapes_boxed.Tie as tie
 
 abbrev Inv-loop : tie.InvT-loop
-Inv-loop block table i flags set s₀ s = (s ≤ 32) × (allUpTo s (shapeBoxed (lentOf block) table (i .number)) ≡ true)
+Inv-loop block table i flags set s₀ s = (s ≤ 32) × (allUpTo s (shapeBoxed (block) table (i .number)) ≡ true)
 
 abbrev μ-loop : tie.MeasureT-loop
 μ-loop block table i flags set s₀ s = 32 - s
 
 abbrev test : tie.At-loop Inv-loop μ-loop → ℕ → Bool
-test c = let a = c .before .before .args in shapeBoxed (lentOf (now (a .block))) (now (a .table)) (a .i .number)
+test c = let a = c .before .before .args in shapeBoxed (now (a .block)) (now (a .table)) (a .i .number)
 
 shapes-of-requires : tie.Need-shapes-of-requires Inv-loop μ-loop
 shapes-of-requires c κs = let s = c .pre in (s .0, s .1, s .2, s .3)
@@ -43,7 +42,7 @@ returns c =
     let p = l .before .before .pre in
     let h = subst (λ (n : ℕ). n < 2 ^ l .loop .s) (l .before .shapes-of .ensures) (b .is-below .ensures .0 (c .if1 .taken)) in
     sym (at-upto (test l) (λ m from upto. ⊎-elim
-    (λ k. implies-out (boxed (lentOf (now (a .block))) m) (none-past _ (now (a .table)) (a .i .number) (p .3) h k))
+    (λ k. implies-out (boxed (now (a .block)) m) (none-past _ (now (a .table)) (a .i .number) (p .3) h k))
     (λ k. upto-at (test l) (l .loop .inv .1) m from k) (below-or (l .loop .s) m)))
 
 add-shape-boxed : tie.Need-add-shape-boxed Inv-loop μ-loop

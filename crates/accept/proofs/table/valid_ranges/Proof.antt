@@ -7,7 +7,6 @@ use borrow.Author.Needs.{needs}
 use denote.Ref.{now}
 use Rattle.integers.specs.Below.{allBelow}
 use Rattle.integers.proofs.Below.{all-zero, all-false}
-use Rattle.sheet.specs.Layout.{lentOf}
 use Rattle.words.proofs.Reading.{read-back}
 use Rattle.accept.specs.Parts.{validRowRange, validRange}
 use Rattle.accept.proofs.Turns.{fails-by, passes-by, all-next, all-done}
@@ -15,14 +14,14 @@ use Rattle.accept.proofs.table.valid_ranges.Statement.{statement}
 use Rattle.accept.proofs.table.valid_ranges.Tie as tie
 
 abbrev Inv-loop : tie.InvT-loop
-Inv-loop block table i k d₀ d = (d ≤ k) × (allBelow d (validRowRange (lentOf block) table (i .number)) ≡ true)
+Inv-loop block table i k d₀ d = (d ≤ k) × (allBelow d (validRowRange (block) table (i .number)) ≡ true)
 
 abbrev μ-loop : tie.MeasureT-loop
 μ-loop block table i k d₀ d = k - d
 
 -- what the call answers, of the two words that were read
 answer : (c : tie.After-valid-range Inv-loop μ-loop) → let l = c .before .before .before .before in let a = l .before .before .args in
-    c .valid-range .result ≡ validRowRange (lentOf (now (a .block))) (now (a .table)) (a .i .number) (l .loop .d)
+    c .valid-range .result ≡ validRowRange (now (a .block)) (now (a .table)) (a .i .number) (l .loop .d)
 answer c =
     let l = c .before .before .low-of in
     let h = c .before .high-of in

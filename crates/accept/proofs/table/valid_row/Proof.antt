@@ -5,16 +5,16 @@ use native.Mathlib.Omega.{arith}
 use borrow.Author.Needs.{needs}
 use denote.Ref.{now}
 use lib.IntN.{pos}
+use Rattle.sheet.proofs.Accepted.{counted}
 use Rattle.integers.specs.Integer.{within}
-use Rattle.sheet.specs.Layout.{lentOf, shapeSet, validRow}
+use Rattle.sheet.specs.Layout.{shapeSet, validRow}
 use Rattle.words.proofs.Reading.{read-back}
 use Rattle.accept.proofs.Turns.{fails-by, passes-by}
-use Rattle.accept.proofs.Opening.{counted}
 use Rattle.accept.proofs.table.valid_row.Statement.{statement}
 use Rattle.accept.proofs.table.valid_row.Tie as tie
 
 set-in : (c : tie.After-valid-set) → let a = c .before .before .args in
-    c .valid-set .result ≡ within (pos 1) (pos (2 ^ 32 - 1)) (shapeSet (lentOf (now (a .block))) (now (a .table)) (a .i .number))
+    c .valid-set .result ≡ within (pos 1) (pos (2 ^ 32 - 1)) (shapeSet (now (a .block)) (now (a .table)) (a .i .number))
 set-in c =
     let w = c .before .shape-set-of in
     c .valid-set .ensures ∙ ap (within (pos 1) (pos (2 ^ 32 - 1))) (read-back (w .ensures) (w .ok))

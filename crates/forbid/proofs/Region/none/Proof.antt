@@ -1,7 +1,7 @@
 -- `Region::none` meets its contract: it is not hit, and its area is the field. Assumes nothing.
 use mathlib.Core.Path.{ap}
 use mathlib.Core.Bool.{false}
-use Rattle.region.specs.declared.Area.{Area}
+use Rattle.points.specs.declared.Area.{Area}
 use Rattle.forbid.specs.declared.Region.{Region}
 use Rattle.forbid.specs.Region.{noRegion}
 use borrow.Author.Needs.{needs}

@@ -1,65 +1,69 @@
 -- `pair::interval_of` meets its contract: the interval begins by the other row's highest place and ends by its lowest. Assumes nothing.
-use mathlib.Core.Path.{ap, _∙_}
-use mir.Syntax.{w64}
-use mir.Val.{toZ, ofZ}
+use mathlib.Core.Path.{_∙_}
+use native.Mathlib.Omega.{arith}
 use denote.Ref.{now}
-use Rattle.integers.specs.Integer.{Within}
 use Rattle.integers.proofs.Machine.{within-by}
-use Rattle.sheet.specs.Layout.{lentOf}
-use Rattle.sheet.specs.Allowed.{forbidFrom, forbidTo}
 use Rattle.sheet.proofs.Forbidden.{axis}
-use Rattle.region.proofs.Sums.{bits-back}
-use Rattle.forbid.specs.Pair.{fromMax, toMin}
+use Rattle.points.proofs.Sums.{bits-back}
+use Rattle.forbid.specs.Interval.{forbidFirst, forbidLast}
 use Rattle.forbid.proofs.pair.interval_of.Statement.{statement}
 use Rattle.forbid.proofs.pair.interval_of.Tie as tie
+
+extent-of-requires : tie.Need-extent-of-requires
+extent-of-requires c κs = let s = c .before in (s .pre .0 .own-few, omega (arith, s .pre .1, s .pre .0 .accepted .head .few-dims))
+
+extent-of-requires-2 : tie.Need-extent-of-requires-2
+extent-of-requires-2 c κs = let s = c .before .before in (s .pre .0 .other-few, omega (arith, s .pre .1, s .pre .0 .accepted .head .few-dims))
 
 low-of-requires : tie.Need-low-of-requires
 low-of-requires c κs =
     let s = c .before .before .before in
     let w = s .pre .0 in
-    (w .block .head, w .table .whole, w .other-row, axis (lentOf (now (s .args .block))) (s .pre .1))
+    (w .accepted .head, w .table .whole, w .other-row, axis (now (s .args .block)) (s .pre .1))
 
 high-of-requires : tie.Need-high-of-requires
 high-of-requires c κs =
     let s = c .before .before .before .before in
     let w = s .pre .0 in
-    (w .block .head, w .table .whole, w .other-row, axis (lentOf (now (s .args .block))) (s .pre .1))
+    (w .accepted .head, w .table .whole, w .other-row, axis (now (s .args .block)) (s .pre .1))
 
--- the row's ends there
-module _ (c : tie.After-high-of) where
-  abbrev s : tie.Start
-  s = c .before .before .before .before .before
-
-  ends : Within 1000000 (toZ w64 (ofZ w64 (c .before .low-of .result))) × Within 1000000 (toZ w64 (ofZ w64 (c .high-of .result)))
-  ends =
-      let w = s .pre .0 in
-      let j = w .other-row in
-      let d = axis (lentOf (now (s .args .block))) (s .pre .1) in (
-        within-by (bits-back (c .before .low-of .ok) ∙ c .before .low-of .ensures) (w .table .lows _ _ (j .from) (j .upto) d),
-        within-by (bits-back (c .high-of .ok) ∙ c .high-of .ensures) (w .table .highs _ _ (j .from) (j .upto) d),
-      )
-
-forbid-from-requires : tie.Need-forbid-from-requires
-forbid-from-requires c κs = let w = s c .pre .0 in let e = ends c in (w .block, w .own, w .other, s c .pre .1, search)
-
-forbid-to-requires : tie.Need-forbid-to-requires
-forbid-to-requires c κs = let h = c .before in let w = s h .pre .0 in let e = ends h in (w .block, w .own, w .other, s h .pre .1, search)
+overlapping-requires : tie.Need-overlapping-requires
+overlapping-requires c κs =
+    let l = c .before in
+    let other = l .before in
+    let own = other .before in
+    let s = own .before .before in
+    let w = s .pre .0 in
+    let j = w .other-row in
+    let h = s .pre .1 in
+    let d = axis (now (s .args .block)) h in
+    let low = within-by (bits-back (l .low-of .ok) ∙ l .low-of .ensures) (w .table .lows _ _ (j .from) (j .upto) d) in
+    let high = within-by (bits-back (c .high-of .ok) ∙ c .high-of .ensures) (w .table .highs _ _ (j .from) (j .upto) d) in
+    record {
+      own-start = within-by (own .extent-of .ensures .0) (w .own .starts _ h);
+      own-end = within-by (own .extent-of .ensures .1) (w .own .ends _ h);
+      other-start = within-by (other .extent-of2 .ensures .0) (w .other .starts _ h);
+      other-end = within-by (other .extent-of2 .ensures .1) (w .other .ends _ h);
+      lowest = search;
+      highest = search;
+    }
 
 returns : tie.Need-returns
-unfolding forbidFrom forbidTo fromMax toMin
+unfolding forbidFirst forbidLast
 returns c =
-    let f = c .before in
-    let h = f .before in
+    let h = c .before in
+    let l = h .before in
+    let other = l .before in
+    let own = other .before in
+    let e = c .overlapping .ensures in
     record {
-      from =
-          bits-back (f .forbid-from .ok) ∙ f .forbid-from .ensures .0
-          ∙ ap (fromMax _ _ _ _) (bits-back (h .high-of .ok) ∙ h .high-of .ensures);
-      to =
-          bits-back (c .forbid-to .ok) ∙ c .forbid-to .ensures .0
-          ∙ ap (toMin _ _ _ _) (bits-back (h .before .low-of .ok) ∙ h .before .low-of .ensures);
-      from-within = within-by (bits-back (f .forbid-from .ok)) (f .forbid-from .ensures .1);
-      to-within = within-by (bits-back (c .forbid-to .ok)) (c .forbid-to .ensures .1);
+      from = e .0 ∙ rw (bits-back (h .high-of .ok), h .high-of .ensures, own .extent-of .ensures .1, other .extent-of2 .ensures .0);
+      to = e .1 ∙ rw (bits-back (l .low-of .ok), l .low-of .ensures, own .extent-of .ensures .0, other .extent-of2 .ensures .1);
+      from-within = e .2;
+      to-within = e .3;
     }
 
 pub interval-of-spec : {M : Type 1} → statement M
-interval-of-spec = tie.close (tie.spec low-of-requires high-of-requires forbid-from-requires forbid-to-requires returns)
+interval-of-spec =
+    tie.close
+    (tie.spec extent-of-requires extent-of-requires-2 low-of-requires high-of-requires overlapping-requires returns)

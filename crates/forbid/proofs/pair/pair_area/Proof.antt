@@ -14,31 +14,30 @@ use Rattle.integers.specs.Words.{word}
 use Rattle.integers.proofs.Booleans.{implies-in, implies-out}
 use Rattle.integers.proofs.Ints.{ints}
 use Rattle.integers.proofs.Machine.{within-by}
-use Rattle.sheet.specs.Layout.{Lent, lentOf, dims, axes}
-use Rattle.sheet.specs.Allowed.{pairForbids}
+use Rattle.sheet.specs.Layout.{dims, axes}
 use Rattle.sheet.proofs.Forbidden.{axis}
-use Rattle.region.specs.Area.{coordinates, fieldArea}
-use Rattle.region.proofs.Sums.{near-back}
-use Rattle.region.proofs.Fills.{Fills, fills-none, fills-skip, fills-set}
+use Rattle.points.specs.Area.{coordinates, fieldArea}
+use Rattle.points.proofs.Sums.{near-back}
+use Rattle.points.proofs.Fills.{Fills, fills-none, fills-skip, fills-set}
 use Rattle.forbid.specs.declared.pair.Pair.{Pair}
-use Rattle.forbid.specs.Pair.{sideForbids}
+use Rattle.forbid.specs.Pair.{sideForbids, solidsForbid}
 use Rattle.forbid.proofs.pair.pair_area.Statement.{statement}
 use Rattle.forbid.proofs.pair.pair_area.Tie as tie
 
 -- the pair forbids p in dimension d, if the rule names d
-abbrev inSide : Lent → List ℤ → Pair → ℕ → List ℤ → Bool
-inSide lent t x d p = sideForbids lent t x d (word p d)
+abbrev inSide : List ℤ → List ℤ → List ℤ → Pair → ℕ → List ℤ → Bool
+inSide block t o x d p = sideForbids block t o x d (word p d)
 
 abbrev Inv-loop : tie.InvT-loop
-Inv-loop block table pair k r low₀ high₀ d₀ low high d =
+Inv-loop block table outline pair k r low₀ high₀ d₀ low high d =
     (d ≤ k) × (length low ≡ coordinates) × (length high ≡ coordinates)
-    × Fills (axes (lentOf block)) d (record { low = low; high = high }) (inSide (lentOf block) table pair)
+    × Fills (axes block) d (record { low = low; high = high }) (inSide block table outline pair)
 
 abbrev μ-loop : tie.MeasureT-loop
-μ-loop block table pair k r low₀ high₀ d₀ low high d = k - d
+μ-loop block table outline pair k r low₀ high₀ d₀ low high d = k - d
 
 dims-of-requires : tie.Need-dims-of-requires Inv-loop μ-loop
-dims-of-requires c κs = c .pre .block .head
+dims-of-requires c κs = c .pre .accepted .head
 
 sub-low : tie.Need-sub-low Inv-loop μ-loop
 sub-low c = omega ints
@@ -52,14 +51,14 @@ module _ (c : tie.In-loop Inv-loop μ-loop) where
   abbrev top : tie.Start Inv-loop μ-loop
   top = c .before .before .before .before
 
-  is-dim : c .before .loop .d < dims (lentOf (now (c .before .before .before .before .args .block)))
+  is-dim : c .before .loop .d < dims (now (c .before .before .before .before .args .block))
   is-dim = omega (arith, c .before .before .before .dims-of .ensures, c .loop-test .taken)
 
   few : c .before .loop .d < coordinates
-  few = omega (arith, is-dim, top .pre .block .head .few-dims)
+  few = omega (arith, is-dim, top .pre .accepted .head .few-dims)
 
 names-dim-requires : tie.Need-names-dim-requires Inv-loop μ-loop
-names-dim-requires c κs = let w = top c .pre in (w .block .head, w .rule, w .block .dim-sets _ (w .rule .below), is-dim c)
+names-dim-requires c κs = let w = top c .pre in (w .accepted .head, w .rule, w .accepted .dim-sets _ (w .rule .below), is-dim c)
 
 interval-of-requires : tie.Need-interval-of-requires Inv-loop μ-loop
 interval-of-requires c κs = let l = c .before .before in (top l .pre, is-dim l)
@@ -90,7 +89,7 @@ loop-again c =
     let i = l .before .loop .inv in
     let d = l .before .loop .d in
     let s = top l in
-    let x = axis (lentOf (now (s .args .block))) (is-dim l) in (
+    let x = axis (now (s .args .block)) (is-dim l) in (
       omega (arith, l .loop-test .taken),
       ⊎-elim (λ w. rw (w .4) (simp length-set (i .1))) (λ w. rw (w .1) (i .1)) (c .if1 .came),
       ⊎-elim (λ w. rw (w .5) (simp length-set (i .2))) (λ w. rw (w .2) (i .2)) (c .if1 .came),
@@ -106,11 +105,11 @@ loop-again c =
     )
 
 returns : tie.Need-returns Inv-loop μ-loop
-unfolding pairForbids sideForbids
+unfolding solidsForbid
 returns c =
     let l = c .before in
     let n = l .before .before in
-    let q : l .loop .d ≡ dims (lentOf (now (n .before .args .block))) = omega (arith, n .dims-of .ensures, l .loop .inv .0, c .loop-test .left) in
+    let q : l .loop .d ≡ dims (now (n .before .args .block)) = omega (arith, n .dims-of .ensures, l .loop .inv .0, c .loop-test .left) in
     rw q at (l .loop .inv .3 .cuts)
 
 pub pair-area-spec : {M : Type 1} → statement M

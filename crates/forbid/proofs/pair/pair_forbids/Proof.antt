@@ -8,33 +8,32 @@ use Rattle.integers.specs.Below.{allBelow}
 use Rattle.integers.specs.Words.{word}
 use Rattle.integers.proofs.Booleans.{not-true, not-false, true-and}
 use Rattle.integers.proofs.Below.{all-zero, all-more, all-false}
-use Rattle.sheet.specs.Layout.{lentOf, dims}
-use Rattle.sheet.specs.Allowed.{pairForbids}
-use Rattle.region.proofs.Sums.{bits-back}
-use Rattle.forbid.specs.Pair.{sideForbids}
+use Rattle.sheet.specs.Layout.{dims}
+use Rattle.points.proofs.Sums.{bits-back}
+use Rattle.forbid.specs.Pair.{sideForbids, solidsForbid}
 use Rattle.forbid.proofs.pair.pair_forbids.Statement.{statement}
 use Rattle.forbid.proofs.pair.pair_forbids.Tie as tie
 
 abbrev Inv-loop : tie.InvT-loop
-Inv-loop block table pair p k d₀ d = (d ≤ k) × (allBelow d (λ e. sideForbids (lentOf block) table pair e (word p e)) ≡ true)
+Inv-loop block table outline pair p k d₀ d = (d ≤ k) × (allBelow d (λ e. sideForbids block table outline pair e (word p e)) ≡ true)
 
 abbrev μ-loop : tie.MeasureT-loop
-μ-loop block table pair p k d₀ d = k - d
+μ-loop block table outline pair p k d₀ d = k - d
 
-below-dims : (c : tie.In-loop Inv-loop μ-loop) → c .before .loop .d < dims (lentOf (now (c .before .before .before .args .block)))
+below-dims : (c : tie.In-loop Inv-loop μ-loop) → c .before .loop .d < dims (now (c .before .before .before .args .block))
 below-dims c = omega (arith, c .before .before .dims-of .ensures, c .loop-test .taken)
 
 dims-of-requires : tie.Need-dims-of-requires Inv-loop μ-loop
-dims-of-requires c κs = c .pre .block .head
+dims-of-requires c κs = c .pre .accepted .head
 
 loop-holds : tie.Need-loop-holds Inv-loop μ-loop
 loop-holds c = (omega arith, all-zero _)
 
 mul-side-forbids : tie.Need-mul-side-forbids Inv-loop μ-loop
-mul-side-forbids c = omega (arith, below-dims c, c .before .before .before .pre .block .head .few-dims)
+mul-side-forbids c = omega (arith, below-dims c, c .before .before .before .pre .accepted .head .few-dims)
 
 array-copy-out-side-forbids : tie.Need-array-copy-out-side-forbids Inv-loop μ-loop
-array-copy-out-side-forbids c = omega (arith, below-dims c, c .before .before .before .pre .block .head .few-dims)
+array-copy-out-side-forbids c = omega (arith, below-dims c, c .before .before .before .pre .accepted .head .few-dims)
 
 side-forbids-requires : tie.Need-side-forbids-requires Inv-loop μ-loop
 side-forbids-requires c κs = (c .before .before .before .before .pre, below-dims (c .before))
@@ -48,15 +47,15 @@ module _ (c : tie.After-side-forbids Inv-loop μ-loop) where
 
   -- the test of one dimension
   abbrev test : ℕ → Bool
-  test e = sideForbids (lentOf (now (s .args .block))) (now (s .args .table)) (s .args .pair) e (word (s .args .t4) e)
+  test e = sideForbids (now (s .args .block)) (now (s .args .table)) (now (s .args .outline)) (s .args .pair) e (word (s .args .t5) e)
 
   tested : c .side-forbids .result ≡ test (l .loop .d)
   tested =
       c .side-forbids .ensures
-      ∙ ap (sideForbids _ _ _ _) (bits-back {z = word (s .args .t4) (l .loop .d)} (c .before .side-forbids-arg .given))
+      ∙ ap (sideForbids _ _ _ _ _) (bits-back {z = word (s .args .t5) (l .loop .d)} (c .before .side-forbids-arg .given))
 
 returns : tie.Need-returns Inv-loop μ-loop
-unfolding pairForbids sideForbids
+unfolding solidsForbid
 returns c =
     let b = c .before in
     sym (all-false (test b) (l b .loop .d) (below-dims (b .before .before)) (sym (tested b) ∙ not-true (c .if1 .taken)))
@@ -73,10 +72,10 @@ loop-again c =
     (omega arith, all-more (l b .loop .d) (test b) ∙ true-and (l b .loop .inv .1) (sym (tested b) ∙ not-false (c .if1 .left)))
 
 returns-2 : tie.Need-returns-2 Inv-loop μ-loop
-unfolding pairForbids sideForbids
+unfolding solidsForbid
 returns-2 c =
     let l = c .before in
-    let q : l .loop .d ≡ dims (lentOf (now (l .before .before .args .block))) = omega (arith, l .before .dims-of .ensures, c .loop-test .left) in
+    let q : l .loop .d ≡ dims (now (l .before .before .args .block)) = omega (arith, l .before .dims-of .ensures, c .loop-test .left) in
     sym (rw q at (l .loop .inv .1))
 
 pub pair-forbids-spec : {M : Type 1} → statement M

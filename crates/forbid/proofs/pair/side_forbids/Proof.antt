@@ -2,7 +2,7 @@
 use mathlib.Core.Path.{sym, _∙_}
 use mir.Facts.{toZ-ofZ}
 use Rattle.integers.proofs.Booleans.{not-true, not-false, implies-in, implies-out}
-use Rattle.region.proofs.Sums.{near-back}
+use Rattle.points.proofs.Sums.{near-back}
 use Rattle.forbid.specs.Pair.{sideForbids}
 use Rattle.forbid.proofs.pair.side_forbids.Statement.{statement}
 use Rattle.forbid.proofs.pair.side_forbids.Tie as tie
@@ -11,7 +11,7 @@ names-dim-requires : tie.Need-names-dim-requires
 names-dim-requires c κs =
     let s = c .before in
     let w = s .pre .0 in
-    (w .block .head, w .rule, w .block .dim-sets _ (w .rule .below), s .pre .1)
+    (w .accepted .head, w .rule, w .accepted .dim-sets _ (w .rule .below), s .pre .1)
 
 returns : tie.Need-returns
 unfolding sideForbids

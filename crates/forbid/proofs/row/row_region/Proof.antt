@@ -11,13 +11,13 @@ none-requires : tie.Need-none-requires
 none-requires c κs = tt
 
 returns : tie.Need-returns
-returns c = missed (itself-none _ _ _ _ _ _ (c .before .if1 .taken) _) (c .none .ensures)
+returns c = missed (itself-none _ _ _ _ _ _ (sym (c .before .if1 .taken)) _) (c .none .ensures)
 
 names-row-requires : tie.Need-names-row-requires
 names-row-requires c κs =
-    let s = c .before in
-    let w = s .pre .0 in
-    (w .block .head, s .pre .1, w .block .row-sets _ (s .pre .1 .below), s .pre .2, omega (arith, s .pre .3, w .table .whole .few-rows))
+    let w = c .before .pre in
+    let a = w .asked in
+    (a .accepted .head, w .rule, a .accepted .row-sets _ (w .rule .below), w .row .from, omega (arith, w .row .upto, a .table .whole .few-rows))
 
 none-requires-2 : tie.Need-none-requires-2
 none-requires-2 c κs = tt
@@ -25,31 +25,19 @@ none-requires-2 c κs = tt
 returns-2 : tie.Need-returns-2
 returns-2 c =
     let n = c .before .before in
-    missed (unnamed-none _ _ _ _ _ _ (n .before .if1 .left) (sym (n .names-row .ensures) ∙ not-true (c .before .if2 .taken)) _) (c .none2 .ensures)
-
-row-place-requires : tie.Need-row-place-requires
-row-place-requires c κs =
-    let s = c .before .before .before in
-    (s .pre .0 .block .head, s .pre .0 .table .whole, s .pre .2, s .pre .3)
+    missed (unnamed-none _ _ _ _ _ _ (λ e. n .before .if1 .left (sym e)) (sym (n .names-row .ensures) ∙ not-true (c .before .if2 .taken)) _)
+    (c .none2 .ensures)
 
 set-region-requires : tie.Need-set-region-requires
-set-region-requires c κs = let s = c .before .before .before .before in (s .pre .0, s .pre .1, c .row-place .ensures .0)
+set-region-requires c κs = c .before .before .before .pre
 
 returns-3 : tie.Need-returns-3
 returns-3 c =
-    let n = c .before .before .before in
-    forbids-same (named-set _ _ _ _ _ _ (n .before .if1 .left) (sym (n .names-row .ensures) ∙ not-false (c .before .before .if2 .left)))
-    (rw (c .before .row-place .ensures .1) at (c .set-region .ensures))
+    let n = c .before .before in
+    forbids-same
+    (named-set _ _ _ _ _ _ (λ e. n .before .if1 .left (sym e)) (sym (n .names-row .ensures) ∙ not-false (c .before .if2 .left)))
+    (c .set-region .ensures _)
 
 pub row-region-spec : {M : Type 1} → statement M
 row-region-spec =
-    tie.close
-    (tie.spec
-    none-requires
-    returns
-    names-row-requires
-    none-requires-2
-    returns-2
-    row-place-requires
-    set-region-requires
-    returns-3)
+    tie.close (tie.spec none-requires returns names-row-requires none-requires-2 returns-2 set-region-requires returns-3)

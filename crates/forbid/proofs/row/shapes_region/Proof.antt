@@ -2,151 +2,154 @@
 use mathlib.Core.Path.{_≡_, refl, sym, _∙_}
 use mathlib.Core.Logic.{⊎-elim}
 use mathlib.Core.Bool.{false}
-use Prim.Native.Nat.{_≤_, _-_}
+use Prim.Native.Nat.{_<_, _-_}
 use native.Mathlib.Omega.{arith}
 use denote.Ref.{now}
-use Rattle.integers.specs.Below.{anyBelow}
-use Rattle.integers.proofs.Booleans.{and-true}
-use Rattle.integers.proofs.Below.{any-zero}
-use Rattle.sheet.specs.Layout.{lentOf, boxes}
-use Rattle.sheet.specs.Allowed.{shapesForbid}
+use Rattle.sheet.specs.Layout.{boxes}
 use Rattle.sheet.proofs.Forbidden.{shapes-by}
+use Rattle.outline.proofs.Solids.{shape-few}
 use Rattle.forbid.specs.Pair.{PairPlaces}
 use Rattle.forbid.specs.Region.{noRegion}
-use Rattle.forbid.proofs.Regions.{cut-region, missed, forbids-by, none-more}
-use Rattle.forbid.proofs.Rows.{boxForbids, ownForbids, passed-none, other-shape-none}
+use Rattle.forbid.proofs.Solids.{forbidsTo, solids-boxes, hull-box-places, box-places}
+use Rattle.forbid.proofs.Regions.{cut-region, missed, forbids-by}
+use Rattle.forbid.proofs.Chains.{Walk, walk-first, walk-next, walk-over, ClearOf, clear-hull, all-clear}
 use Rattle.forbid.proofs.row.shapes_region.Statement.{statement}
 use Rattle.forbid.proofs.row.shapes_region.Tie as tie
 
 abbrev Inv-loop : tie.InvT-loop
-Inv-loop block table r i s j t p n found₀ own b other₀ found other =
-    (other ≤ n) × (found ≡ found₀)
-    × (anyBelow other (λ m. boxForbids (lentOf block) table (r .number) (i .number) (b .number) (j .number) t m p) ≡ false)
+Inv-loop block table outline r s j t p n hull found₀ other own₀ found own =
+    (found ≡ found₀) × Walk block s own (λ b. forbidsTo block table outline r j b other p ≡ false)
 
 abbrev μ-loop : tie.MeasureT-loop
-μ-loop block table r i s j t p n found₀ own b other₀ found other = n - other
+μ-loop block table outline r s j t p n hull found₀ other own₀ found own = n - own
 
 abbrev Inv-pairs : tie.InvT-pairs
-Inv-pairs block table r i s j t p n found₀ own₀ found own =
-    (own ≤ n) × (found ≡ noRegion)
-    × (anyBelow own (λ m. ownForbids (lentOf block) table (r .number) (i .number) s (j .number) t m p) ≡ false)
+Inv-pairs block table outline r s j t p n hull found₀ other₀ found other =
+    (found ≡ noRegion) × Walk block t other (ClearOf block table outline r s j p)
 
 abbrev μ-pairs : tie.MeasureT-pairs
-μ-pairs block table r i s j t p n found₀ own₀ found own = n - own
+μ-pairs block table outline r s j t p n hull found₀ other₀ found other = n - other
+
+-- the box at hand of each walk is one
+module _ (c : tie.In-pairs Inv-loop μ-loop Inv-pairs μ-pairs) where
+  abbrev top : tie.Start Inv-loop μ-loop Inv-pairs μ-pairs
+  top = c .before .before .before .before .before .before
+
+  other-below : c .before .pairs .other < boxes (now (top .args .block))
+  other-below = omega (arith, c .before .before .before .before .before .boxes-of .ensures, c .pairs-test .taken)
+
+module _ (c : tie.In-loop Inv-loop μ-loop Inv-pairs μ-pairs) where
+  abbrev out : tie.In-pairs Inv-loop μ-loop Inv-pairs μ-pairs
+  out = c .before .before .before .before .before
+
+  own-below : c .before .loop .own < boxes (now (top out .args .block))
+  own-below = omega (arith, out .before .before .before .before .before .boxes-of .ensures, c .loop-test .taken)
+
+  places : PairPlaces (now (top out .args .block)) (now (top out .args .table)) (now (top out .args .outline))
+      (record { r = top out .args .r; own = c .before .loop .own; j = top out .args .j; other = out .before .pairs .other })
+  places =
+      let w = top out .pre .0 in
+      box-places (w .asked .accepted) (w .asked .table) (w .asked .outline) (w .rule) (w .row) own-below (other-below out)
 
 boxes-of-requires : tie.Need-boxes-of-requires Inv-loop μ-loop Inv-pairs μ-pairs
-boxes-of-requires c κs = c .pre .0 .block .head
+boxes-of-requires c κs = c .pre .0 .asked .accepted .head
+
+hull-of-requires : tie.Need-hull-of-requires Inv-loop μ-loop Inv-pairs μ-pairs
+hull-of-requires c κs = let w = c .before .pre .0 .asked in shape-few (w .accepted) (w .own)
 
 none-requires : tie.Need-none-requires Inv-loop μ-loop Inv-pairs μ-pairs
 none-requires c κs = tt
 
+first-of-requires : tie.Need-first-of-requires Inv-loop μ-loop Inv-pairs μ-pairs
+first-of-requires c κs =
+    let s = c .before .before .before in
+    let w = s .pre .0 .asked in
+    (w .outline .chained, shape-few (w .accepted) (s .pre .1))
+
 pairs-holds : tie.Need-pairs-holds Inv-loop μ-loop Inv-pairs μ-pairs
-pairs-holds c = (omega arith, c .none .ensures, any-zero _)
+pairs-holds c = (c .before .none .ensures, walk-first (c .first-of .ensures))
 
-box-place-requires : tie.Need-box-place-requires Inv-loop μ-loop Inv-pairs μ-pairs
-box-place-requires c κs =
-    let n = c .before .before .before in
-    (n .before .pre .0 .block .head, omega (arith, n .boxes-of .ensures, c .pairs-test .taken))
+pair-forbids-requires : tie.Need-pair-forbids-requires Inv-loop μ-loop Inv-pairs μ-pairs
+pair-forbids-requires c κs =
+    let w = top c .pre .0 in
+    let a = w .asked in
+    let hull = c .before .before .before .before .hull-of .ensures in
+    hull-box-places (a .accepted) (a .table) (a .outline) (w .rule) (w .row) hull (a .own) (other-below c)
 
-box-is-requires : tie.Need-box-is-requires Inv-loop μ-loop Inv-pairs μ-pairs
-box-is-requires c κs =
-    let w = c .before .before .before .before .before .pre .0 .block in
-    (w .head, c .box-place .ensures .0, w .shapes _ (c .box-place .ensures .0 .below))
+first-of-requires-2 : tie.Need-first-of-requires-2 Inv-loop μ-loop Inv-pairs μ-pairs
+first-of-requires-2 c κs = let w = top (c .before .before) .pre .0 .asked in (w .outline .chained, shape-few (w .accepted) (w .own))
 
 loop-holds : tie.Need-loop-holds Inv-loop μ-loop Inv-pairs μ-pairs
-loop-holds c = (omega arith, refl, any-zero _)
+loop-holds c = (refl, walk-first (c .first-of2 .ensures))
 
-box-place-requires-2 : tie.Need-box-place-requires-2 Inv-loop μ-loop Inv-pairs μ-pairs
-box-place-requires-2 c κs =
-    let n = c .before .before .before .before .before .before .before .before in
-    (n .before .pre .0 .block .head, omega (arith, n .boxes-of .ensures, c .loop-test .taken))
-
-module _ (c : tie.After-box-place2 Inv-loop μ-loop Inv-pairs μ-pairs) where
-  abbrev o : tie.After-box-place Inv-loop μ-loop Inv-pairs μ-pairs
-  o = c .before .before .before .before .before
-
-  abbrev s : tie.Start Inv-loop μ-loop Inv-pairs μ-pairs
-  s = o .before .before .before .before .before
-
-  places : PairPlaces (lentOf (now (s .args .block))) (now (s .args .table))
-      (record { r = s .args .r; i = s .args .i; b = o .box-place .result; j = s .args .j; c = c .box-place2 .result })
-  places = record {
-    block = s .pre .0 .block;
-    table = s .pre .0 .table;
-    rule = s .pre .1;
-    row = s .pre .0 .row;
-    own = o .box-place .ensures .0;
-    other-row = s .pre .2;
-    other = c .box-place2 .ensures .0;
-  }
-
-box-forbids-requires : tie.Need-box-forbids-requires Inv-loop μ-loop Inv-pairs μ-pairs
-box-forbids-requires c κs = places c
+pair-forbids-requires-2 : tie.Need-pair-forbids-requires-2 Inv-loop μ-loop Inv-pairs μ-pairs
+pair-forbids-requires-2 c κs = places c
 
 pair-area-requires : tie.Need-pair-area-requires Inv-loop μ-loop Inv-pairs μ-pairs
 pair-area-requires c κs = places (c .before .before)
 
-add-other : tie.Need-add-other Inv-loop μ-loop Inv-pairs μ-pairs
-add-other c = omega arith
+after-requires : tie.Need-after-requires Inv-loop μ-loop Inv-pairs μ-pairs
+after-requires c κs =
+    let l = c .before .before in
+    let w = top (out l) .pre .0 .asked in
+    (w .accepted .head, w .outline .chained, own-below l, l .before .loop .inv .1 .is (own-below l))
 
 loop-less : tie.Need-loop-less Inv-loop μ-loop Inv-pairs μ-pairs
-loop-less c = omega arith
+loop-less c = omega (arith, c .after .ensures .0, c .before .before .before .loop-test .taken)
 
 loop-again : tie.Need-loop-again Inv-loop μ-loop Inv-pairs μ-pairs
 loop-again c =
-    let b = c .before .before in
-    let l = b .before .before in (
-      omega arith,
-      l .loop .inv .1,
-      none-more _ (l .loop .inv .2) (rw (← b .box-place2 .ensures .1) (sym (c .before .box-forbids .ensures) ∙ c .if2 .left)),
-    )
+    let f = c .before .before in
+    let i = f .before .before .loop .inv in
+    (i .0, walk-next (i .1) (sym (f .pair-forbids2 .ensures) ∙ c .before .if2 .left) (c .after .ensures))
 
-add-own : tie.Need-add-own Inv-loop μ-loop Inv-pairs μ-pairs
-add-own c = omega arith
+after-requires-2 : tie.Need-after-requires-2 Inv-loop μ-loop Inv-pairs μ-pairs
+after-requires-2 c κs =
+    let l = c .before .before in
+    let w = top l .pre .0 .asked in
+    (w .accepted .head, w .outline .chained, other-below l, l .before .pairs .inv .1 .is (other-below l))
 
 pairs-less : tie.Need-pairs-less Inv-loop μ-loop Inv-pairs μ-pairs
-pairs-less c = omega arith
+pairs-less c = omega (arith, c .after2 .ensures .0, c .before .before .before .pairs-test .taken)
 
 pairs-again : tie.Need-pairs-again Inv-loop μ-loop Inv-pairs μ-pairs
 pairs-again c =
-    let b = c .before .before in
-    let l = b .before .before in
-    let n = l .before .before in
-    let a = n .before .args in
-    let e = b .box-place .ensures .1 in (
-      omega arith,
-      ⊎-elim (λ w. w .3 ∙ w .1 .inv .1 ∙ l .pairs .inv .1) (λ w. w .1 ∙ l .pairs .inv .1) (c .if1 .came),
-      none-more _ (l .pairs .inv .2)
+    let f = c .before .before in
+    let l = f .before in
+    let i = l .before .pairs .inv in
+    let w = top l .pre .0 .asked in
+    let h = l .before .before .before .before in (
+      ⊎-elim (λ x. x .4 ∙ x .2 .inv .0 ∙ i .0) (λ x. x .1 ∙ i .0) (c .before .if1 .came),
+      walk-next (i .1)
           (⊎-elim
-          (λ w. passed-none _ _ _ _ (a .s) _ (a .t) _ e (omega (arith, w .1 .inv .0, w .2 .left, n .boxes-of .ensures)) (w .1 .inv .2))
-          (λ w. other-shape-none _ _ _ _ (a .s) _ (a .t) _ e (sym (c .before .box-is .ensures) ∙ w .0 .left))
-          (c .if1 .came)),
+          (λ x. walk-over (x .2 .inv .1) (omega (arith, x .3 .left, h .before .boxes-of .ensures)))
+          (λ x. clear-hull _ _ _ _ _ _ _ (w .outline) _ (h .hull-of .ensures) (w .own) (sym (f .pair-forbids .ensures) ∙ x .0 .left))
+          (c .before .if1 .came))
+          (c .after2 .ensures),
     )
 
 returns : tie.Need-returns Inv-loop μ-loop Inv-pairs μ-pairs
-unfolding shapesForbid
 returns c =
     let l = c .before in
-    let n = l .before .before in
-    let q : l .pairs .own ≡ boxes (lentOf (now (n .before .args .block))) = omega (arith, n .boxes-of .ensures, c .pairs-test .left) in
-    missed (rw q at (l .pairs .inv .2)) (l .pairs .inv .1)
+    let n = l .before .before .before .before in
+    λ i. missed (all-clear _ _ _ _ _ _ _ (n .before .pre .0 .asked .outline) i
+    (walk-over (l .pairs .inv .1) (omega (arith, n .boxes-of .ensures, c .pairs-test .left)))) (l .pairs .inv .0)
 
 returns-2 : tie.Need-returns-2 Inv-loop μ-loop Inv-pairs μ-pairs
 returns-2 c =
     let f = c .before .before in
-    let b = f .before in
-    let w = s b .pre .0 in
-    let h = and-true (sym (f .box-forbids .ensures) ∙ c .before .if2 .taken) in
-    forbids-by (λ q e. shapes-by _ _ _ _ _ _ _ q (record {
-      own = o b .box-place .result .number;
-      other = b .box-place2 .result .number;
-      own-below = places b .own .below;
-      other-below = places b .other .below;
-      own-is = sym (b .before .before .before .before .box-is .ensures) ∙ b .before .before .before .if1 .taken;
-      other-is = h .0;
-      pair = e;
+    let l = f .before in
+    let w = top (out l) .pre .0 .asked in
+    λ i. forbids-by (λ q e. shapes-by _ _ _ _ _ _ _ q (record {
+      own = l .before .loop .own;
+      other = out l .before .pairs .other;
+      own-below = own-below l;
+      other-below = other-below (out l);
+      own-is = l .before .loop .inv .1 .is (own-below l);
+      other-is = out l .before .pairs .inv .1 .is (other-below (out l));
+      pair = sym (solids-boxes _ _ _ _ _ (w .outline .boxes-of) i (own-below l) (other-below (out l)) q) ∙ e;
     })) refl
-    (cut-region (w .block .head .few-axes) (w .near) (h .1) (c .pair-area .ensures))
+    (cut-region (w .accepted .head .few-axes) (w .near) (sym (f .pair-forbids2 .ensures) ∙ c .before .if2 .taken) (c .pair-area .ensures))
 
 pub shapes-region-spec : {M : Type 1} → statement M
 shapes-region-spec =
@@ -157,18 +160,19 @@ shapes-region-spec =
     Inv-pairs
     μ-pairs
     boxes-of-requires
+    hull-of-requires
     none-requires
+    first-of-requires
     pairs-holds
-    box-place-requires
-    box-is-requires
+    pair-forbids-requires
+    first-of-requires-2
     loop-holds
-    box-place-requires-2
-    box-forbids-requires
+    pair-forbids-requires-2
     pair-area-requires
-    add-other
+    after-requires
     loop-less
     loop-again
-    add-own
+    after-requires-2
     pairs-less
     pairs-again
     returns

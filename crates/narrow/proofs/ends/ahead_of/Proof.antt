@@ -5,8 +5,8 @@ use lib.IntN.{ℤ, pos}
 use Rattle.integers.specs.Integer.{minus, within}
 use Rattle.integers.specs.Words.{word}
 use Rattle.integers.proofs.Machine.{bnd, num, _+ʷ_, _-ʷ_, sum-fits, diff-fits, exact, within-pos}
-use Rattle.region.proofs.Sums.{sum-is}
-use Rattle.region.proofs.Cut.{cuts-same}
+use Rattle.points.proofs.Sums.{sum-is}
+use Rattle.points.proofs.Cut.{cuts-same}
 use borrow.Author.Needs.{needs}
 use Rattle.narrow.proofs.ends.ahead_of.Statement.{statement}
 use Rattle.narrow.proofs.ends.ahead_of.Tie as tie

@@ -2,7 +2,7 @@
 use Prim.Native.Nat.{_+_}
 use denote.Ref.{now}
 use Rattle.integers.specs.Words.{word}
-use Rattle.region.proofs.Sums.{bits-back}
+use Rattle.points.proofs.Sums.{bits-back}
 use borrow.Author.Needs.{needs}
 use Rattle.narrow.proofs.ends.end_of.Statement.{statement}
 use Rattle.narrow.proofs.ends.end_of.Tie as tie

@@ -3,7 +3,7 @@ use mathlib.Core.Path.{ap₂}
 use lib.Signed.{leZ}
 use mir.Facts.{toZ-ofZ}
 use Rattle.integers.specs.Words.{word}
-use Rattle.region.proofs.Sums.{bits-back}
+use Rattle.points.proofs.Sums.{bits-back}
 use borrow.Author.Needs.{needs}
 use Rattle.narrow.proofs.ends.none_past.Statement.{statement}
 use Rattle.narrow.proofs.ends.none_past.Tie as tie

@@ -7,8 +7,8 @@ use lib.ListN.{length, set, length-set}
 use mir.Syntax.{w64}
 use mir.Val.{toZ, ofZ}
 use Rattle.integers.specs.Words.{word}
-use Rattle.region.specs.Area.{maxZ, minZ}
-use Rattle.region.proofs.Sums.{bits-back}
+use Rattle.points.specs.Area.{maxZ, minZ}
+use Rattle.points.proofs.Sums.{bits-back}
 use Rattle.narrow.specs.Ends.{Taken}
 use Rattle.narrow.proofs.Taking.{taken-none, taken-more, length-next}
 use borrow.Author.Needs.{needs}

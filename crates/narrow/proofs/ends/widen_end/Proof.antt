@@ -2,8 +2,7 @@
 use mathlib.Core.Path.{_≡_, sym, _∙_, subst}
 use mathlib.Core.Bool.{true}
 use mathlib.Core.List.{List}
-use Prim.Native.Nat.{ℕ, suc, _≤_}
-use native.Mathlib.Numerals.{add-one}
+use Prim.Native.Nat.{ℕ, _-_, _≤_, _<_}
 use native.Mathlib.Omega.{arith}
 use denote.Ref.{now}
 use lib.IntN.{ℤ}
@@ -12,39 +11,58 @@ use mir.Val.{toZ, ofZ}
 use Rattle.integers.specs.Integer.{within, Within}
 use Rattle.integers.specs.Words.{word}
 use Rattle.integers.proofs.Machine.{within-weaken}
-use Rattle.sheet.specs.Layout.{Lent, lentOf, axes}
+use Rattle.sheet.specs.Layout.{axes}
 use Rattle.sheet.specs.Allowed.{allowed}
 use Rattle.sheet.specs.Narrow.{Stands}
-use Rattle.region.specs.declared.Area.{Area}
-use Rattle.region.specs.Area.{inArea, Cuts}
-use Rattle.region.proofs.Sums.{bits-back}
-use Rattle.bounds.specs.Search.{Ahead, Sighted}
-use Rattle.narrow.specs.Ends.{endAt, past-from, past-to, none-past}
+use Rattle.points.specs.declared.Area.{Area}
+use Rattle.points.specs.Area.{inArea, Cuts}
+use Rattle.points.proofs.Sums.{bits-back}
+use Rattle.nearby.specs.declared.Nearby.{Nearby}
+use Rattle.bounds.specs.Search.{Ahead}
+use Rattle.narrow.specs.Ends.{endAt, past-from, past-to, none-past, Edge, Widening}
 use Rattle.narrow.proofs.Shapes.{edge-more}
 use Rattle.narrow.proofs.Taking.{near-point, edge-near, taken-kept}
-use Rattle.narrow.proofs.Widens.{listed-part, some-past, free-allowed, behind-all, behind-none, behind-first}
+use Rattle.narrow.proofs.Widens.{some-past, part-inside, free-allowed, behind-all, behind-none, behind-first}
 use borrow.Author.Needs.{needs}
 use Rattle.narrow.proofs.ends.widen_end.Statement.{statement}
 use Rattle.narrow.proofs.ends.widen_end.Tie as tie
 
 module _ (s : tie.Start) where
-  abbrev lent : Lent
-  lent = lentOf (now (s .args .block))
+  abbrev block : List ℤ
+  block = now (s .args .block)
 
   abbrev table : List ℤ
   table = now (s .args .table)
 
+  abbrev x : Nearby
+  x = s .args .nearby
+
   abbrev row : ℕ
-  row = s .args .i .number
+  row = x .i .number
 
   abbrev z : ℤ
   z = endAt (s .args .flip) (s .args .d) (now (s .args .ends))
 
-  few : axes lent ≤ 4
-  few = s .pre .0 .head .few-axes
+  abbrev given : Widening block table (now (s .args .outline)) (now (s .args .suspects)) (now (s .args .known)) x (s .args .cut) (x .s - 1)
+      (now (s .args .ends))
+  given = s .pre .0
 
-  close : (p : List ℤ) → allowed lent table row (suc (s .args .s)) p ≡ true → Within 1000000 (word p (s .args .d))
-  close = near-point lent table (s .pre .1) row (s .pre .2 .from) (s .pre .2 .upto) (suc (s .args .s)) (s .args .d) (s .pre .3)
+  abbrev below : s .args .d < axes block
+  below = s .pre .1
+
+  few : axes block ≤ 4
+  few = given .subject .accepted .head .few-axes
+
+  close : (p : List ℤ) → allowed block table row (x .s) p ≡ true → Within 1000000 (word p (s .args .d))
+  close =
+      let r = given .subject .row in
+      near-point block table (given .subject .table) row (r .from) (r .upto) (x .s) (s .args .d) below
+
+  -- an end that no point of the shape is ahead of has taken it in
+  taken-on : {y : ℤ} → Edge block table row (s .args .flip) (x .s - 1) (s .args .d) y
+      → ((p : List ℤ) → allowed block table row (x .s) p ≡ true → Ahead (s .args .flip) y (word p (s .args .d)))
+      → Edge block table row (s .args .flip) (x .s) (s .args .d) y
+  taken-on {y} e behind = edge-more block table row (s .args .flip) (x .s - 1) (s .args .d) y (given .next) e behind
 
 -- the end, and whether the cut box has nothing ahead of it
 end-back : (c : tie.After-end-of) → toZ w64 (ofZ w64 (c .end-of .result)) ≡ z (c .before .before)
@@ -63,27 +81,23 @@ module _ (c : tie.After-ahead-of) where
   abbrev area : Area
   area = c .ahead-of .result
 
-  cuts : Cuts (axes (lent b)) (b .args .cut) area
+  cuts : Cuts (axes (block b)) (b .args .cut) area
       (λ p. within (past-from (b .args .flip) (z b)) (past-to (b .args .flip) (z b)) (word p (b .args .d)))
   cuts =
-      subst (λ (y : ℤ). Cuts (axes (lent b)) (b .args .cut) area
+      subst (λ (y : ℤ). Cuts (axes (block b)) (b .args .cut) area
       (λ p. within (past-from (b .args .flip) y) (past-to (b .args .flip) y) (word p (b .args .d))))
-      (end-back (c .before .before .before)) (c .ahead-of .ensures (axes (lent b)) (b .pre .3))
+      (end-back (c .before .before .before)) (c .ahead-of .ensures (axes (block b)) (below b))
 
-  some : inArea (axes (lent b)) area (area .low) ≡ true
+  some : inArea (axes (block b)) area (area .low) ≡ true
   some =
-      some-past (axes (lent b)) (b .args .cut) area (b .pre .6 .small) (b .pre .7) (b .args .d) (b .pre .3) (b .args .flip) (z b) cuts
+      some-past (axes (block b)) (b .args .cut) area (given b .box .small) (given b .filled) (b .args .d) (below b) (b .args .flip) (z b) cuts
       (sym (tested (c .before .before)) ∙ c .before .if1 .left)
 
-sighted : (c : tie.After-search) → let s = b (c .before) in
-    Sighted (s .args .flip) (lent s) (table s) (row s) (suc (s .args .s)) (area (c .before)) (s .args .d) (c .search .result)
-sighted c = rw add-one at (c .search .ensures)
-
 end-of-requires : tie.Need-end-of-requires
-end-of-requires c κs = (c .before .pre .8, omega (arith, few (c .before), c .before .pre .3))
+end-of-requires c κs = search needs
 
 none-past-requires : tie.Need-none-past-requires
-none-past-requires c κs = let s = c .before .before in omega (arith, few s, s .pre .3)
+none-past-requires c κs = search needs
 
 same-length : tie.Need-same-length
 same-length c = search needs
@@ -92,38 +106,35 @@ returns : tie.Need-returns
 returns c =
     let t = c .before in
     let s = t .before .before .before in (
-      λ n flip d h x. x,
-      edge-more (lent s) (table s) (row s) (s .args .flip) (s .args .s) (s .args .d) (z s) (s .pre .9)
-          (behind-all (lent s) (table s) (row s) (suc (s .args .s)) (s .args .cut) (s .pre .6) (s .args .flip) (z s) (s .args .d) (s .pre .3)
-          (sym (tested t) ∙ c .if1 .taken)),
+      λ n flip d h e. e,
+      taken-on s (s .pre .2) (behind-all (block s) (table s) (row s) (x s .s) (s .args .cut) (given s .box) (s .args .flip) (z s) (s .args .d)
+          (below s) (sym (tested t) ∙ c .if1 .taken)),
+      given s .listed,
     )
 
 ahead-of-requires : tie.Need-ahead-of-requires
 ahead-of-requires c κs =
     let e = c .before .before in
-    let s = e .before .before in (
-      omega (arith, few s, s .pre .3),
+    let s = e .before .before in
+    let r = given s .subject .row in (
+      omega (arith, few s, below s),
       subst (Within 1500000) (sym (end-back e))
           (within-weaken (omega arith)
-          (edge-near (lent s) (table s) (s .pre .1) (row s) (s .pre .2 .from) (s .pre .2 .upto) (s .args .d) (s .pre .3) (s .pre .9))),
+          (edge-near (block s) (table s) (given s .subject .table) (row s) (r .from) (r .upto) (s .args .d) (below s) (s .pre .2))),
     )
-
-add-search : tie.Need-add-search
-add-search c = search needs
 
 search-requires : tie.Need-search-requires
 search-requires c κs =
-    let s = b c in (
-      s .pre .0,
-      s .pre .1,
-      s .pre .2,
-      s .pre .3,
-      cuts c .small (s .pre .6 .small),
-      some c,
-      s .pre .10,
-      rw add-one (listed-part (lent s) (table s) (row s) (suc (s .args .s)) (s .args .cut) (area c) (now (s .args .list)) (s .args .nearby)
-          (cuts c) (s .pre .11)),
-    )
+    let a = c .before in
+    let s = b a in
+    record {
+      subject = given s .subject;
+      listed = given s .listed;
+      below = below s;
+      small = cuts a .small (given s .box .small);
+      filled = some a;
+      inside = part-inside (block s) (table s) (row s) (x s .s) (s .args .cut) (given s .box) (area a) (cuts a);
+    }
 
 take-in-requires : tie.Need-take-in-requires
 take-in-requires c κs = search needs
@@ -135,24 +146,25 @@ returns-2 : tie.Need-returns-2
 returns-2 c =
     let w = c .before in
     let t = w .before .before .before in
-    let x = sighted (t .before) in
-    let a = t .before .before in
+    let f = t .before .search in
+    let a = t .before .before .before in
     let s = b a in
-    let q = t .before .search .result .point in
-    let new = w .take-in .last .0 in
-    let st : Stands (lent s) (table s) (row s) q = record {
-      shape = suc (s .args .s);
-      held = s .pre .5;
-      stands = free-allowed (lent s) (table s) (row s) (suc (s .args .s)) (s .args .cut) (s .pre .6) (area a) (cuts a) q (x .free (t .if2 .taken));
+    let q = f .result .point in
+    let r = given s .subject .row in
+    let st : Stands (block s) (table s) (row s) q = record {
+      shape = x s .s;
+      held = given s .held;
+      stands = free-allowed (block s) (table s) (row s) (x s .s) (s .args .cut) (given s .box) (area a) (cuts a) q
+          (f .ensures .0 .free (t .if2 .taken));
     } in
-    let kept = taken-kept (lent s) (table s) (s .pre .1) (row s) (s .pre .2 .from) (s .pre .2 .upto) (few s) (w .take-in .ensures) st in (
+    let kept = taken-kept (block s) (table s) (given s .subject .table) (row s) (r .from) (r .upto) (few s) (w .take-in .ensures) st in (
       kept,
-      edge-more (lent s) (table s) (row s) (s .args .flip) (s .args .s) (s .args .d) (endAt (s .args .flip) (s .args .d) new)
-          (kept (s .args .s) (s .args .flip) (s .args .d) (s .pre .3) (s .pre .9))
+      taken-on s (kept (x s .s - 1) (s .args .flip) (s .args .d) (below s) (s .pre .2))
           (λ p h. subst (λ (y : ℤ). Ahead (s .args .flip) y (word p (s .args .d)))
-          (sym (w .take-in .ensures .moved (s .args .flip) (s .args .d) (omega (arith, few s, s .pre .3))))
-          (behind-first (lent s) (table s) (row s) (suc (s .args .s)) (s .args .cut) (s .pre .6) (area a) (s .args .flip) (z s) (s .args .d)
-          (close s) (cuts a) (word q (s .args .d)) (x .first (t .if2 .taken)) p h)),
+          (sym (w .take-in .ensures .moved (s .args .flip) (s .args .d) (omega (arith, few s, below s))))
+          (behind-first (block s) (table s) (row s) (x s .s) (s .args .cut) (given s .box) (area a) (s .args .flip) (z s) (s .args .d)
+          (close s) (cuts a) (word q (s .args .d)) (f .ensures .0 .first (t .if2 .taken)) p h)),
+      f .ensures .1,
     )
 
 same-length-3 : tie.Need-same-length-3
@@ -160,13 +172,13 @@ same-length-3 c = search needs
 
 returns-3 : tie.Need-returns-3
 returns-3 c =
-    let x = sighted (c .before) in
-    let a = c .before .before in
+    let f = c .before .search in
+    let a = c .before .before .before in
     let s = b a in (
-      λ n flip d h x. x,
-      edge-more (lent s) (table s) (row s) (s .args .flip) (s .args .s) (s .args .d) (z s) (s .pre .9)
-          (behind-none (lent s) (table s) (row s) (suc (s .args .s)) (s .args .cut) (s .pre .6) (area a) (s .args .flip) (z s) (s .args .d)
-          (close s) (cuts a) (x .none (c .if2 .left))),
+      λ n flip d h e. e,
+      taken-on s (s .pre .2) (behind-none (block s) (table s) (row s) (x s .s) (s .args .cut) (given s .box) (area a) (s .args .flip) (z s)
+          (s .args .d) (close s) (cuts a) (f .ensures .0 .none (c .if2 .left))),
+      f .ensures .1,
     )
 
 pub widen-end-spec : {M : Type 1} → statement M
@@ -178,7 +190,6 @@ widen-end-spec =
     same-length
     returns
     ahead-of-requires
-    add-search
     search-requires
     take-in-requires
     same-length-2

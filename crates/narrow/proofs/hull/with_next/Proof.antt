@@ -1,20 +1,23 @@
 -- `hull::with_next` meets its contract: the shape joins the set where it has a point. Assumes nothing.
 use mathlib.Core.Path.{_≡_, sym, _∙_}
-use mathlib.Core.Bool.{true, false}
+use mathlib.Core.Bool.{Bool, true, false}
 use mathlib.Core.List.{List}
-use Prim.Native.Nat.{ℕ, _+_}
+use Prim.Native.Nat.{ℕ, suc, _+_}
 use native.Mathlib.Omega.{arith}
 use denote.Ref.{now}
-use lib.IntN.{ℤ}
-use Rattle.sheet.specs.Layout.{Lent, lentOf}
-use Rattle.narrow.proofs.Hulls.{shape-in, shape-not, below-next, hull-next, hull-skip}
+use lib.IntN.{ℤ, pos}
+use Rattle.integers.specs.Bits.{bit}
+use Rattle.integers.proofs.Booleans.{not-true, not-false}
+use Rattle.sheet.specs.Layout.{hasShape}
+use Rattle.narrow.specs.Hulls.{HullTo}
+use Rattle.narrow.proofs.Hulls.{member-shape, below-next, hull-next, hull-skip}
 use borrow.Author.Needs.{needs}
 use Rattle.narrow.proofs.hull.with_next.Statement.{statement}
 use Rattle.narrow.proofs.hull.with_next.Tie as tie
 
 module _ (c : tie.Start) where
-  abbrev lent : Lent
-  lent = lentOf (now (c .args .block))
+  abbrev block : List ℤ
+  block = now (c .args .block)
 
   abbrev table : List ℤ
   table = now (c .args .table)
@@ -22,31 +25,34 @@ module _ (c : tie.Start) where
   abbrev row : ℕ
   row = c .args .i .number
 
-cast-if1 : tie.Need-cast-if1
-cast-if1 c = search needs
+  hull : HullTo block table row (c .args .s) (c .args .shapes) (now (c .args .ends))
+  hull = record { kept = c .pre .2; reach = c .pre .0 .reach }
 
-shr-if1 : tie.Need-shr-if1
-shr-if1 c = search needs
+  -- whether the row has the shape
+  shape-is : {b : Bool} → b ≡ bit (pos (c .args .set)) (c .args .s) → b ≡ hasShape block table row (suc (c .args .s))
+  shape-is e = e ∙ member-shape block table row (c .args .s) (c .pre .1)
+
+has-member-requires : tie.Need-has-member-requires
+has-member-requires c κs = c .pre .0 .below
 
 returns : tie.Need-returns
 returns c =
-    let s = c .before in (
-      hull-skip (lent s) (table s) (row s) (s .args .s) (s .args .shapes) (now (s .args .ends)) (s .pre .6)
-          (shape-not (lent s) (table s) (row s) (s .args .s) (s .pre .4) (c .if1 .taken)),
-      s .pre .7,
-    )
+    let m = c .before in
+    let s = m .before in
+    hull-skip (block s) (table s) (row s) (s .args .s) (s .args .shapes) (now (s .args .ends)) (hull s)
+    (sym (shape-is s (m .has-member .ensures)) ∙ not-true (c .if1 .taken))
 
 with-shape-requires : tie.Need-with-shape-requires
 with-shape-requires c κs =
-    let e = c .before .before in
-    let s = e .before in
-    let p = s .pre in
-    (p .0, p .1, p .2, p .3, shape-in (lent s) (table s) (row s) (s .args .s) (p .4) (e .if1 .left), p .5, p .6 .reach, p .7)
+    let e = c .before .before .before in
+    let m = e .before in
+    let s = m .before in
+    (s .pre .0, sym (shape-is s (m .has-member .ensures)) ∙ not-false (e .if1 .left))
 
 with-member-requires : tie.Need-with-member-requires
 with-member-requires c κs =
-    let s = c .before .before .before .before .before .before .before in
-    (s .pre .3, below-next (lent s) (table s) (row s) (s .args .s) (s .args .shapes) (now (s .args .ends)) (s .pre .6))
+    let s = c .before .before .before .before .before .before .before .before .before in
+    (s .pre .0 .below, below-next (block s) (table s) (row s) (s .args .s) (s .args .shapes) (now (s .args .ends)) (hull s))
 
 same-length : tie.Need-same-length
 same-length c = search needs
@@ -58,11 +64,9 @@ returns-2 : tie.Need-returns-2
 returns-2 c =
     let t = c .before in
     let w = t .before .before .before in
-    let s = w .before .before .before .before in (
-      rw (c .with-member .ensures) (hull-next (lent s) (table s) (row s) (s .args .s) (s .args .shapes) (now (s .args .ends)) (s .pre .6) true
-          (sym (w .with-shape .ensures .0) ∙ t .if2 .taken) (w .with-shape .ensures .1)),
-      w .with-shape .ensures .2,
-    )
+    let s = w .before .before .before .before .before .before in
+    rw (c .with-member .ensures) (hull-next (block s) (table s) (row s) (s .args .s) (s .args .shapes) (now (s .args .ends)) (hull s) true
+    (sym (w .with-shape .ensures .0) ∙ t .if2 .taken) (w .with-shape .ensures .1))
 
 same-length-3 : tie.Need-same-length-3
 same-length-3 c = search needs
@@ -73,19 +77,16 @@ same-length-4 c = search needs
 returns-3 : tie.Need-returns-3
 returns-3 c =
     let w = c .before .before .before in
-    let s = w .before .before .before .before in
-    let q : s .args .shapes + 0 ≡ s .args .shapes = omega arith in (
-      rw q at (hull-next (lent s) (table s) (row s) (s .args .s) (s .args .shapes) (now (s .args .ends)) (s .pre .6) false
-          (sym (w .with-shape .ensures .0) ∙ c .if2 .left) (w .with-shape .ensures .1)),
-      w .with-shape .ensures .2,
-    )
+    let s = w .before .before .before .before .before .before in
+    let q : s .args .shapes + 0 ≡ s .args .shapes = omega arith in
+    rw q at (hull-next (block s) (table s) (row s) (s .args .s) (s .args .shapes) (now (s .args .ends)) (hull s) false
+    (sym (w .with-shape .ensures .0) ∙ c .if2 .left) (w .with-shape .ensures .1))
 
 pub with-next-spec : {M : Type 1} → statement M
 with-next-spec =
     tie.close
     (tie.spec
-    cast-if1
-    shr-if1
+    has-member-requires
     returns
     with-shape-requires
     with-member-requires

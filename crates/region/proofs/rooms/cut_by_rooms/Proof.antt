@@ -5,24 +5,24 @@ use native.Mathlib.Omega.{arith}
 use denote.Ref.{now}
 use lib.ListN.{length}
 use Rattle.integers.specs.Below.{allBelow}
-use Rattle.sheet.specs.Layout.{lentOf, axes, rules}
+use Rattle.sheet.specs.Layout.{axes, rules}
 use Rattle.sheet.specs.Allowed.{roomsHold}
-use Rattle.region.specs.Area.{Cuts, areaOf}
-use Rattle.region.specs.Rooms.{boxHolds, shapeContained, roomHolds}
-use Rattle.region.proofs.Cut.{cuts-zero, cuts-more}
+use Rattle.points.specs.Area.{Cuts, areaOf}
+use Rattle.region.specs.Rooms.{shapeContained, roomHolds}
+use Rattle.points.proofs.Cut.{cuts-zero, cuts-more}
 use Rattle.region.proofs.rooms.cut_by_rooms.Statement.{statement}
 use Rattle.region.proofs.rooms.cut_by_rooms.Tie as tie
 
 abbrev Inv-loop : tie.InvT-loop
-Inv-loop ends₀ block i s n r₀ ends r =
-    (r ≤ n) × (length ends ≡ length ends₀) × Cuts (axes (lentOf block)) (areaOf ends₀) (areaOf ends)
-    (λ p. allBelow r (λ m. roomHolds (lentOf block) i s m p))
+Inv-loop ends₀ block outline i s n r₀ ends r =
+    (r ≤ n) × (length ends ≡ length ends₀) × Cuts (axes block) (areaOf ends₀) (areaOf ends)
+    (λ p. allBelow r (λ m. roomHolds block i s m p))
 
 abbrev μ-loop : tie.MeasureT-loop
-μ-loop ends₀ block i s n r₀ ends r = n - r
+μ-loop ends₀ block outline i s n r₀ ends r = n - r
 
 rules-of-requires : tie.Need-rules-of-requires Inv-loop μ-loop
-rules-of-requires c κs = c .pre .0 .head
+rules-of-requires c κs = c .pre .0 .accepted .head
 
 loop-holds : tie.Need-loop-holds Inv-loop μ-loop
 loop-holds c = (omega arith, refl, cuts-zero _)
@@ -32,7 +32,7 @@ cut-by-rule-requires c κs =
     let l = c .before .before in
     let n = l .before in
     let s = n .before in
-    (s .pre .0, s .pre .1, s .pre .2, omega (arith, n .rules-of .ensures, c .before .loop-test .taken), l .loop .inv .1 ∙ s .pre .3)
+    (s .pre .0, omega (arith, n .rules-of .ensures, c .before .loop-test .taken), l .loop .inv .1 ∙ s .pre .1)
 
 add-r : tie.Need-add-r Inv-loop μ-loop
 add-r c = omega (arith, c .before .before .before .loop-test .taken)
@@ -50,10 +50,10 @@ same-length : tie.Need-same-length Inv-loop μ-loop
 same-length c = c .before .loop .inv .1
 
 returns : tie.Need-returns Inv-loop μ-loop
-unfolding roomsHold roomHolds shapeContained boxHolds
+unfolding roomsHold roomHolds shapeContained
 returns c =
     let l = c .before in
-    let q : l .loop .r ≡ rules (lentOf (now (l .before .before .args .block))) =
+    let q : l .loop .r ≡ rules (now (l .before .before .args .block)) =
     omega (arith, l .before .rules-of .ensures, l .loop .inv .0, c .loop-test .left) in
     rw q at (l .loop .inv .2)
 

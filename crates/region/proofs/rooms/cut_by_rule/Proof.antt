@@ -1,7 +1,7 @@
 -- `rooms::cut_by_rule` meets its contract: a rule that keeps the row in a room cuts, another does not. Assumes nothing.
 use mathlib.Core.Path.{sym, _∙_}
 use Rattle.region.specs.Rooms.{roomHolds}
-use Rattle.region.proofs.Cut.{cuts-in, cuts-out}
+use Rattle.points.proofs.Cut.{cuts-in, cuts-out}
 use borrow.Author.Needs.{needs}
 use Rattle.region.proofs.rooms.cut_by_rule.Statement.{statement}
 use Rattle.region.proofs.rooms.cut_by_rule.Tie as tie

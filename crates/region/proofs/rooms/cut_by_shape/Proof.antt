@@ -1,60 +1,90 @@
--- `rooms::cut_by_shape` meets its contract: so far the area is cut by each box passed. Assumes nothing.
-use mathlib.Core.Path.{_≡_, refl, _∙_}
-use Prim.Native.Nat.{_≤_, _-_}
+-- `rooms::cut_by_shape` meets its contract: so far the area is cut in each dimension passed that the rule names. Assumes nothing.
+use mathlib.Core.Path.{_≡_, refl, sym, _∙_, subst}
+use mathlib.Core.Logic.{⊎-elim}
+use mathlib.Core.Bool.{Bool}
+use mathlib.Core.List.{List}
+use Prim.Native.Nat.{ℕ, _+_, _-_, _≤_, _<_}
 use native.Mathlib.Omega.{arith}
 use denote.Ref.{now}
+use lib.IntN.{ℤ}
 use lib.ListN.{length}
-use Rattle.integers.specs.Below.{allBelow}
-use Rattle.sheet.specs.Layout.{lentOf, axes, boxes}
-use Rattle.region.specs.Area.{Cuts, areaOf}
-use Rattle.region.specs.Rooms.{boxHolds, shapeContained}
-use Rattle.region.proofs.Cut.{cuts-zero, cuts-more}
+use Rattle.integers.specs.Below.{_⇒_, allBelow}
+use Rattle.sheet.specs.Layout.{dims, axes, namesDim}
+use Rattle.points.specs.Area.{Cuts, areaOf}
+use Rattle.points.proofs.Cut.{cuts-zero, cuts-more, cuts-same, cuts-in, cuts-out}
+use Rattle.region.specs.Rooms.{sideContained}
+use Rattle.region.proofs.Contained.{hull-sides}
 use Rattle.region.proofs.rooms.cut_by_shape.Statement.{statement}
 use Rattle.region.proofs.rooms.cut_by_shape.Tie as tie
 
+-- from the run u to w, cut by shape s in the dimensions below n that rule r names
+module _ (block o : List ℤ) (r s : ℕ) where
+  abbrev sideHolds : ℕ → List ℤ → Bool
+  sideHolds d p = namesDim block r d ⇒ sideContained block o r s d p
+
+  abbrev CutTo : ℕ → List ℤ → List ℤ → Type 0
+  CutTo n u w = (length w ≡ length u) × Cuts (axes block) (areaOf u) (areaOf w) (λ p. allBelow n (λ d. sideHolds d p))
+
 abbrev Inv-loop : tie.InvT-loop
-Inv-loop ends₀ block r s n b₀ ends b =
-    (b ≤ n) × (length ends ≡ length ends₀) × Cuts (axes (lentOf block)) (areaOf ends₀) (areaOf ends)
-    (λ p. allBelow b (λ m. boxHolds (lentOf block) (r .number) s m p))
+Inv-loop ends₀ block outline r s k d₀ ends d = (d ≤ k) × CutTo block outline (r .number) s d ends₀ ends
 
 abbrev μ-loop : tie.MeasureT-loop
-μ-loop ends₀ block r s n b₀ ends b = n - b
+μ-loop ends₀ block outline r s k d₀ ends d = k - d
 
-boxes-of-requires : tie.Need-boxes-of-requires Inv-loop μ-loop
-boxes-of-requires c κs = c .pre .0 .head
+dims-of-requires : tie.Need-dims-of-requires Inv-loop μ-loop
+dims-of-requires c κs = c .pre .0 .accepted .head
 
 loop-holds : tie.Need-loop-holds Inv-loop μ-loop
-loop-holds c = (omega arith, refl, cuts-zero _)
+loop-holds c = (omega arith, (refl, cuts-zero _))
 
-cut-by-box-of-requires : tie.Need-cut-by-box-of-requires Inv-loop μ-loop
-cut-by-box-of-requires c κs =
-    let l = c .before .before in
-    let n = l .before in
-    let s = n .before in
-    (s .pre .0, s .pre .1, omega (arith, n .boxes-of .ensures, c .before .loop-test .taken), l .loop .inv .1 ∙ s .pre .2)
+-- in the loop
+module _ (c : tie.In-loop Inv-loop μ-loop) where
+  abbrev start : tie.Start Inv-loop μ-loop
+  start = c .before .before .before
 
-add-b : tie.Need-add-b Inv-loop μ-loop
-add-b c = omega (arith, c .before .before .before .loop-test .taken)
+  below : c .before .loop .d < dims (now (start .args .block))
+  below = omega (arith, c .before .before .dims-of .ensures, c .loop-test .taken)
+
+names-dim-requires : tie.Need-names-dim-requires Inv-loop μ-loop
+names-dim-requires c κs =
+    let p = start c .pre .0 in (p .accepted .head, p .rule, p .accepted .dim-sets _ (p .rule .below), below c)
+
+cut-by-side-requires : tie.Need-cut-by-side-requires Inv-loop μ-loop
+cut-by-side-requires c κs =
+    let i = c .before .before .before in (start i .pre .0, below i, i .before .loop .inv .1 .0 ∙ start i .pre .1)
+
+add-d : tie.Need-add-d Inv-loop μ-loop
+add-d c = omega (arith, c .before .before .loop-test .taken)
 
 loop-less : tie.Need-loop-less Inv-loop μ-loop
-loop-less c = omega (arith, c .before .before .before .loop-test .taken)
+loop-less c = omega (arith, c .before .before .loop-test .taken)
 
 loop-again : tie.Need-loop-again Inv-loop μ-loop
 loop-again c =
-    let t = c .before .before .before in
-    let i = t .before .loop .inv in
-    (omega (arith, t .loop-test .taken), c .ends .given ∙ i .1, cuts-more _ (i .2) (c .before .cut-by-box-of .ensures))
+    let n = c .before in
+    let i = n .before in
+    let l = i .before .loop in
+    let a = start i .args in
+    let P = CutTo (now (a .block)) (now (a .outline)) (a .r .number) (a .s) (l .d + 1) (now (a .ends)) in (
+      omega (arith, i .loop-test .taken),
+      ⊎-elim
+          (λ b. subst P (sym (b .4))
+          (b .3 .given ∙ l .inv .1 .0, cuts-more _ (l .inv .1 .1) (cuts-in (sym (n .names-dim .ensures) ∙ b .0 .taken) (b .2 .ensures))))
+          (λ b. subst P (sym (b .1)) (l .inv .1 .0, cuts-more _ (l .inv .1 .1) (cuts-out _ (sym (n .names-dim .ensures) ∙ b .0 .left))))
+          (c .if1 .came),
+    )
 
 same-length : tie.Need-same-length Inv-loop μ-loop
-same-length c = c .before .loop .inv .1
+same-length c = c .before .loop .inv .1 .0
 
 returns : tie.Need-returns Inv-loop μ-loop
-unfolding shapeContained
 returns c =
     let l = c .before in
-    let q : l .loop .b ≡ boxes (lentOf (now (l .before .before .args .block))) =
-    omega (arith, l .before .boxes-of .ensures, l .loop .inv .0, c .loop-test .left) in
-    rw q at (l .loop .inv .2)
+    let s = l .before .before in
+    let p = s .pre .0 in
+    let block = now (s .args .block) in
+    let q : l .loop .d ≡ dims block = omega (arith, l .before .dims-of .ensures, l .loop .inv .0, c .loop-test .left) in
+    cuts-same (hull-sides block (p .outline .boxes-of) (p .outline .hulls _ (p .shape)) _) (rw q at (l .loop .inv .1 .1))
 
 pub cut-by-shape-spec : {M : Type 1} → statement M
 cut-by-shape-spec =
@@ -62,10 +92,11 @@ cut-by-shape-spec =
     (tie.spec
     Inv-loop
     μ-loop
-    boxes-of-requires
+    dims-of-requires
     loop-holds
-    cut-by-box-of-requires
-    add-b
+    names-dim-requires
+    cut-by-side-requires
+    add-d
     loop-less
     loop-again
     same-length

@@ -14,9 +14,10 @@ use Rattle.integers.specs.Integer.{Within}
 use Rattle.integers.specs.Words.{word}
 use Rattle.integers.proofs.Ints.{ints}
 use Rattle.integers.proofs.Machine.{bnd, num, _+ʷ_, exact, fits-word}
+use Rattle.points.specs.Area.{coordinates}
 use Rattle.sweep.specs.declared.Sweep.{Sweep}
 use Rattle.sweep.specs.Point.{reach, next}
-use Rattle.sweep.specs.Rotation.{axes, rotation}
+use Rattle.sweep.specs.Rotation.{rotation}
 use Rattle.sweep.specs.Moves.{placedAt, advance}
 use Rattle.sweep.proofs.Points.{near-fits}
 use Rattle.sweep.proofs.Rotations.{rotation-below}
@@ -31,7 +32,7 @@ abbrev μ-loop : tie.MeasureT-loop
 μ-loop k d self₀ low high j₀ self j = j
 
 -- the dimension is one of a point's
-dim-below : (c : tie.After-rotated Inv-loop μ-loop) → c .rotated .result < axes
+dim-below : (c : tie.After-rotated Inv-loop μ-loop) → c .rotated .result < coordinates
 dim-below c =
     let a = c .before .before .before .args in
     omega (arith, c .rotated .ensures, rotation-below (a .k) (a .d) (c .before .before .loop .j - 1))

@@ -8,8 +8,9 @@ use lib.ListN.{length}
 use mir.Facts.{toZ-ofZ}
 use Rattle.integers.specs.Words.{word}
 use Rattle.integers.proofs.Machine.{bnd, num, _+ʷ_, exact, fits-word}
-use Rattle.sweep.specs.Point.{nexts, lesser, lessers}
-use Rattle.sweep.specs.Rotation.{axes}
+use Rattle.points.specs.Area.{coordinates, minZ}
+use Rattle.sweep.specs.Point.{nexts, lessers}
+use Rattle.sweep.specs.Rotation.{}
 use Rattle.sweep.specs.Moves.{jumpedPast}
 use Rattle.sweep.proofs.Points.{near-fits, Made, made-none, made-more, made-word, made-all}
 use Rattle.sweep.proofs.Points.{length-nexts, word-nexts, length-lessers, word-lessers}
@@ -21,33 +22,33 @@ Inv-loop self₀ last e₀ self e =
     (self .candidate ≡ self₀ .candidate) × (self .live ≡ self₀ .live) × Made (self₀ .jump) (lessers (self₀ .jump) (nexts last)) (self .jump) e
 
 abbrev μ-loop : tie.MeasureT-loop
-μ-loop self₀ last e₀ self e = axes - e
+μ-loop self₀ last e₀ self e = coordinates - e
 
 loop-holds : tie.Need-loop-holds Inv-loop μ-loop
 loop-holds c =
-    let j : length (c .args .t1 .jump) ≡ axes = search needs in
-    let l : length (c .args .t2) ≡ axes = search needs in
+    let j : length (c .args .t1 .jump) ≡ coordinates = search needs in
+    let l : length (c .args .t2) ≡ coordinates = search needs in
     let m = length-lessers (c .args .t1 .jump) (nexts (c .args .t2)) in
     let n = length-nexts (c .args .t2) in
     (refl, refl, made-none (omega arith))
 
-mul-lesser-word : tie.Need-mul-lesser-word Inv-loop μ-loop
-mul-lesser-word c = omega arith
+mul-lesser : tie.Need-mul-lesser Inv-loop μ-loop
+mul-lesser c = omega arith
 
-element-copy-out-lesser-word : tie.Need-element-copy-out-lesser-word Inv-loop μ-loop
-element-copy-out-lesser-word c = omega arith
+element-copy-out-lesser : tie.Need-element-copy-out-lesser Inv-loop μ-loop
+element-copy-out-lesser c = omega arith
 
-mul-lesser-word-2 : tie.Need-mul-lesser-word-2 Inv-loop μ-loop
-mul-lesser-word-2 c = omega arith
+mul-lesser-2 : tie.Need-mul-lesser-2 Inv-loop μ-loop
+mul-lesser-2 c = omega arith
 
-array-copy-out-lesser-word : tie.Need-array-copy-out-lesser-word Inv-loop μ-loop
-array-copy-out-lesser-word c = omega arith
+array-copy-out-lesser : tie.Need-array-copy-out-lesser Inv-loop μ-loop
+array-copy-out-lesser c = omega arith
 
-add-lesser-word : tie.Need-add-lesser-word Inv-loop μ-loop
-add-lesser-word c = let b = c .before .before .before in near-fits (b .before .pre .near (b .loop .e)) _ tt
+add-lesser : tie.Need-add-lesser Inv-loop μ-loop
+add-lesser c = let b = c .before .before .before in near-fits (b .before .pre .near (b .loop .e)) _ tt
 
-lesser-word-requires : tie.Need-lesser-word-requires Inv-loop μ-loop
-lesser-word-requires c κs = tt
+lesser-requires : tie.Need-lesser-requires Inv-loop μ-loop
+lesser-requires c κs = tt
 
 mul-t17 : tie.Need-mul-t17 Inv-loop μ-loop
 mul-t17 c = omega arith
@@ -70,20 +71,20 @@ loop-again c =
     let made = b .loop .inv .2 in
     let h : b .loop .e < length (b .before .args .t1 .jump) = search needs in
     let g : b .loop .e < length (b .before .args .t2) = search needs in
-    let now = toZ-ofZ (fits-word (word (b .loop .self .jump) e) (c .before .before .lesser-word-arg .given)) in
+    let now = toZ-ofZ (fits-word (word (b .loop .self .jump) e) (c .before .before .lesser-arg .given)) in
     let past = exact (bnd (b .before .pre .near e) +ʷ num 1) tt in (
       b .loop .inv .0,
       b .loop .inv .1,
       made-more made h
-          (toZ-ofZ (fits-word _ (c .lesser-word .ok)) ∙ c .lesser-word .ensures
-          ∙ ap₂ lesser (now ∙ made-word made h) (past ∙ sym (word-nexts last e g))
+          (toZ-ofZ (fits-word _ (c .lesser .ok)) ∙ c .lesser .ensures
+          ∙ ap₂ minZ (now ∙ made-word made h) (past ∙ sym (word-nexts last e g))
           ∙ sym (word-lessers jump (nexts last) e h (omega (arith, length-nexts last, g)))),
     )
 
 returns : tie.Need-returns Inv-loop μ-loop
 unfolding jumpedPast
 returns c =
-    let l : length (c .before .before .args .t1 .jump) ≡ axes = search needs in
+    let l : length (c .before .before .args .t1 .jump) ≡ coordinates = search needs in
     let h : length (c .before .before .args .t1 .jump) ≤ c .before .loop .e = omega arith in
     rw (c .before .loop .inv .0, c .before .loop .inv .1, made-all (c .before .loop .inv .2) h)
 
@@ -94,12 +95,12 @@ jumped-spec =
     Inv-loop
     μ-loop
     loop-holds
-    mul-lesser-word
-    element-copy-out-lesser-word
-    mul-lesser-word-2
-    array-copy-out-lesser-word
-    add-lesser-word
-    lesser-word-requires
+    mul-lesser
+    element-copy-out-lesser
+    mul-lesser-2
+    array-copy-out-lesser
+    add-lesser
+    lesser-requires
     mul-t17
     element-set-from-self
     add-e

@@ -1,0 +1,58 @@
+-- `interval::overlapping` meets its contract: each sum fits, and they come to the definition's. Assumes nothing.
+use Rattle.integers.proofs.Machine.{Expr, bnd, num, _+ʷ_, _-ʷ_, sum-fits, diff-fits}
+use Rattle.points.proofs.Sums.{sum-is}
+use Rattle.forbid.proofs.Intervals.{first-sum, last-sum, add-literal-fits}
+use Rattle.forbid.proofs.interval.overlapping.Statement.{statement}
+use Rattle.forbid.proofs.interval.overlapping.Tie as tie
+
+-- the bounds taken back, and the sums but for the literals
+module _ (c : tie.Start) where
+  abbrev back-from-end : Expr
+  back-from-end = num 0 -ʷ bnd (c .pre .own-end)
+
+  abbrev back-from-start : Expr
+  back-from-start = num 0 -ʷ bnd (c .pre .own-start)
+
+  abbrev first : Expr
+  first = bnd (c .pre .highest) +ʷ bnd (c .pre .other-start)
+
+  abbrev last : Expr
+  last = bnd (c .pre .lowest) +ʷ bnd (c .pre .other-end)
+
+sub-back-from-end : tie.Need-sub-back-from-end
+sub-back-from-end c = diff-fits (num 0) (bnd (c .before .before .pre .own-end)) tt
+
+sub-back-from-start : tie.Need-sub-back-from-start
+sub-back-from-start c = diff-fits (num 0) (bnd (c .before .before .before .before .pre .own-start)) tt
+
+add-t7 : tie.Need-add-t7
+add-t7 c = let s = c .before .before .before .before .before .before in sum-fits (bnd (s .pre .highest)) (bnd (s .pre .other-start)) tt
+
+add-t8 : tie.Need-add-t8
+add-t8 c = let s = c .before .before .before .before .before .before in sum-fits (first s) (back-from-end s) tt
+
+add-t9 : tie.Need-add-t9
+add-t9 c = let s = c .before .before .before .before .before .before in search (add-literal-fits (first s +ʷ back-from-end s))
+
+-- the places of the second sum
+abbrev top : tie.After-struct-told4 → tie.Start
+top c = c .before .before .before .before .before .before .before .before
+
+add-t10 : tie.Need-add-t10
+add-t10 c = sum-fits (bnd (top c .pre .lowest)) (bnd (top c .pre .other-end)) tt
+
+add-t11 : tie.Need-add-t11
+add-t11 c = sum-fits (last (top c)) (back-from-start (top c)) tt
+
+sub-t12 : tie.Need-sub-t12
+sub-t12 c = diff-fits (last (top c) +ʷ back-from-start (top c)) (num 1) tt
+
+returns : tie.Need-returns
+returns c =
+    let a = top c .args in
+    let f = sum-is (first (top c) +ʷ back-from-end (top c) +ʷ num 1) tt (first-sum (a .own) (a .other) (a .high)) in
+    let l = sum-is (last (top c) +ʷ back-from-start (top c) -ʷ num 1) tt (last-sum (a .own) (a .other) (a .low)) in
+    (f .0, l .0, f .1, l .1)
+
+pub overlapping-spec : {M : Type 1} → statement M
+overlapping-spec = tie.close (tie.spec sub-back-from-end sub-back-from-start add-t7 add-t8 add-t9 add-t10 add-t11 sub-t12 returns)

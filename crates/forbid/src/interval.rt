@@ -1,0 +1,27 @@
+// The forbidden interval of document 01, of any two extents: of two boxes, or of the hulls of two shapes. No other code computes an end of it.
+ghost use mathlib.Core.Path.{_≡_};
+ghost use Rattle.integers.specs.Integer.{Within};
+ghost use Rattle.points.specs.Area.{reach};
+ghost use Rattle.forbid.specs.Interval.{forbidFirst, forbidLast, Near};
+use outline::solid::Extent;
+
+// The numbers from a first to a last one; none where the first exceeds the last.
+pub struct Interval {
+    pub from: i64,
+    pub to: i64,
+}
+
+// The origins at which the own extent overlaps the other one wherever the other's row stands from low to high: it ends past the other's start
+// where that row is highest, and starts before the other's end where it is lowest.
+pub fn overlapping(own: Extent, other: Extent, low: i64, high: i64) -> Interval
+    requires { ⌜ Near own other low high ⌝ }
+    ensures { λ x. ⌜ (x .from ≡ forbidFirst own other high) × (x .to ≡ forbidLast own other low)
+        × Within reach (x .from) × Within reach (x .to) ⌝ }
+{
+    let back_from_end = -own.end;
+    let back_from_start = -own.start;
+    Interval {
+        from: high + other.start + back_from_end + 1,
+        to: low + other.end + back_from_start - 1,
+    }
+}

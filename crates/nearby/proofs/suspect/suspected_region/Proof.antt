@@ -1,0 +1,177 @@
+-- `nearby::suspect::suspected_region` meets its contract: so far no suspect whose area holds the point forbids it. Assumes nothing.
+use mathlib.Core.Path.{_≡_, sym, ap, ap₂, _∙_, subst}
+use mathlib.Core.Logic.{⊎-elim}
+use mathlib.Core.Bool.{true, false}
+use mathlib.Core.List.{List}
+use Prim.Native.Nat.{ℕ, suc, _-_, _≤_, _<_}
+use native.Mathlib.Numerals.{add-one}
+use native.Mathlib.Omega.{arith}
+use denote.Ref.{now}
+use lib.IntN.{ℤ}
+use lib.ListN.{length}
+use Rattle.integers.proofs.Booleans.{clash, fails, not-false}
+use Rattle.integers.proofs.Below.{last-or}
+use Rattle.sheet.specs.Layout.{axes}
+use Rattle.sheet.specs.Allowed.{setForbids}
+use Rattle.points.specs.Area.{inArea}
+use Rattle.forbid.proofs.Regions.{missed, miss, forbids-by}
+use Rattle.nearby.specs.Places.{suspectAt, ruleOf, rowOf, suspectArea}
+use Rattle.nearby.specs.Listing.{Suspect}
+use Rattle.nearby.proofs.suspect.suspected_region.Statement.{statement}
+use Rattle.nearby.proofs.suspect.suspected_region.Tie as tie
+
+-- suspect m forbids p to no row with shape s, if its area holds p
+abbrev Clear : List ℤ → List ℤ → List ℤ → List ℤ → ℕ → ℕ → Type 0
+Clear block table list p s m =
+    (i : ℕ) → inArea (axes block) (suspectArea list m) p ≡ true → setForbids block table (ruleOf list m) p i s (rowOf list m) ≡ false
+
+abbrev Inv-loop : tie.InvT-loop
+Inv-loop block table outline suspects p k s whole count e₀ e = (e ≤ count) × ((m : ℕ) → m < e → Clear block table suspects p s m)
+
+abbrev μ-loop : tie.MeasureT-loop
+μ-loop block table outline suspects p k s whole count e₀ e = count - e
+
+axes-of-requires : tie.Need-axes-of-requires Inv-loop μ-loop
+axes-of-requires c κs = c .pre .asked .accepted .head
+
+forbidding-region-requires : tie.Need-forbidding-region-requires Inv-loop μ-loop
+forbidding-region-requires c κs = let p = c .before .before .before .pre in (p .asked, p .row)
+
+returns : tie.Need-returns Inv-loop μ-loop
+returns c = c .forbidding-region .ensures
+
+loop-holds : tie.Need-loop-holds Inv-loop μ-loop
+loop-holds c = (omega arith, λ m h. absurd (omega arith))
+
+module _ (l : tie.In-loop Inv-loop μ-loop) where
+  abbrev start : tie.Start Inv-loop μ-loop
+  start = l .before .before .before .before .before
+
+  abbrev at : ℕ
+  at = l .before .loop .e
+
+  room : suspectAt (suc at) ≤ length (now (start .args .suspects))
+  room = omega (arith, l .loop-test .taken, start .pre .suspects .fits)
+
+  is : Suspect (now (start .args .block)) (now (start .args .table)) (start .args .nearby .i .number) (start .args .nearby .s)
+      (now (start .args .suspects)) at
+  is = start .pre .suspects .each at (l .loop-test .taken)
+
+mul-at : tie.Need-mul-at Inv-loop μ-loop
+mul-at c = omega (arith, room c)
+
+add-area-holds : tie.Need-add-area-holds Inv-loop μ-loop
+add-area-holds c = omega (arith, room c)
+
+area-holds-requires : tie.Need-area-holds-requires Inv-loop μ-loop
+area-holds-requires c κs =
+    (omega (arith, room c), omega (arith, start c .pre .asked .accepted .head .few-axes, c .before .before .before .before .axes-of .ensures))
+
+count-at-requires : tie.Need-count-at-requires Inv-loop μ-loop
+count-at-requires c κs = let l = c .before .before in (omega (arith, room l), is l .rule-count)
+
+rule-place-requires : tie.Need-rule-place-requires Inv-loop μ-loop
+rule-place-requires c κs =
+    let l = c .before .before .before in
+    (start l .pre .asked .accepted .head, omega (arith, c .count-at .ensures, is l .rule))
+
+add-count-at : tie.Need-add-count-at Inv-loop μ-loop
+add-count-at c = omega (arith, room (c .before .before .before .before))
+
+count-at-requires-2 : tie.Need-count-at-requires-2 Inv-loop μ-loop
+count-at-requires-2 c κs = let l = c .before .before .before .before in (omega (arith, room l), is l .row-count)
+
+row-place-requires : tie.Need-row-place-requires Inv-loop μ-loop
+row-place-requires c κs =
+    let l = c .before .before .before .before .before in
+    let p = start l .pre .asked in
+    (p .accepted .head, p .table .whole, omega (arith, c .count-at2 .ensures, is l .from), omega (arith, c .count-at2 .ensures, is l .upto))
+
+set-region-requires : tie.Need-set-region-requires Inv-loop μ-loop
+set-region-requires c κs =
+    let r = c .before .before in
+    record {
+      asked = start (r .before .before .before .before) .pre .asked;
+      rule = r .rule-place .ensures .0;
+      row = c .row-place .ensures .0;
+    }
+
+returns-2 : tie.Need-returns-2 Inv-loop μ-loop
+returns-2 c =
+    let x = c .before in
+    let j = x .before in
+    let r = j .before .before in
+    let l = r .before .before .before .before in
+    let a = start l .args in
+    let ej = j .row-place .ensures .1 ∙ j .before .count-at2 .ensures in
+    let er = r .rule-place .ensures .1 ∙ r .before .count-at .ensures in
+    forbids-by
+    (λ q h. is l .sound q
+    (sym (ap₂ (λ (m n : ℕ). setForbids (now (a .block)) (now (a .table)) m q (a .nearby .i .number) (a .nearby .s) n) er ej) ∙ h))
+    (c .if3 .taken) (x .set-region .ensures (a .nearby .i .number))
+
+add-e : tie.Need-add-e Inv-loop μ-loop
+add-e c = omega (arith, room (c .before .before))
+
+loop-less : tie.Need-loop-less Inv-loop μ-loop
+loop-less c = omega (arith, c .before .before .loop-test .taken)
+
+loop-again : tie.Need-loop-again Inv-loop μ-loop
+loop-again c =
+    let h = c .before in
+    let l = h .before in
+    let a = start l .args in
+    let block = now (a .block) in
+    let list = now (a .suspects) in
+    let clear : Clear block (now (a .table)) list (a .p) (a .nearby .s) (at l) = λ i e. ⊎-elim
+    (λ w. sym (ap₂ (λ (m n : ℕ). setForbids block (now (a .table)) m (a .p) i (a .nearby .s) n)
+    (w .2 .ensures .1 ∙ w .1 .ensures) (w .4 .ensures .1 ∙ w .3 .ensures))
+    ∙ miss (w .5 .ensures i) (w .6 .left))
+    (λ w. clash (h .area-holds .ensures
+    ∙ ap (λ (k : ℕ). inArea k (suspectArea list (at l)) (a .p)) (l .before .before .before .before .axes-of .ensures) ∙ e) (w .left))
+    (c .if2 .came) in (
+      omega (arith, l .loop-test .taken),
+      λ m h. ⊎-elim
+          (λ q. subst (Clear block (now (a .table)) list (a .p) (a .nearby .s)) (sym q) clear)
+          (λ k. l .before .loop .inv .1 m k)
+          (last-or (subst (λ (n : ℕ). m < n) (add-one (at l)) h)),
+    )
+
+none-requires : tie.Need-none-requires Inv-loop μ-loop
+none-requires c κs = tt
+
+returns-3 : tie.Need-returns-3 Inv-loop μ-loop
+returns-3 c =
+    let l = c .before .before in
+    let w = l .before in
+    let s = w .before .before .before in
+    missed (fails (λ f.
+    let m = s .pre .meets (not-false (w .if1 .left)) f in
+    clash (m .forbids) (l .loop .inv .1 (m .suspect) (omega (arith, m .below, c .before .loop-test .left)) (s .args .nearby .i .number) (m .holds))))
+    (c .none .ensures)
+
+pub suspected-region-spec : {M : Type 1} → statement M
+suspected-region-spec =
+    tie.close
+    (tie.spec
+    Inv-loop
+    μ-loop
+    axes-of-requires
+    forbidding-region-requires
+    returns
+    loop-holds
+    mul-at
+    add-area-holds
+    area-holds-requires
+    count-at-requires
+    rule-place-requires
+    add-count-at
+    count-at-requires-2
+    row-place-requires
+    set-region-requires
+    returns-2
+    add-e
+    loop-less
+    loop-again
+    none-requires
+    returns-3)

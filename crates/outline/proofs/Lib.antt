@@ -1,0 +1,5 @@
+pub mod Runs
+pub mod Chains
+pub mod Counting
+pub mod Solids
+pub mod Hulls

@@ -1,0 +1,61 @@
+-- Areas: boxes of points, given by a low and a high point. Which points an area holds, and what it is to cut one down.
+-- Assumes nothing.
+use mathlib.Core.Path.{_≡_}
+use mathlib.Core.Bool.{Bool, cond, _&&_}
+use mathlib.Core.List.{List}
+use Prim.Native.Nat.{ℕ, _+_, _<_}
+use lib.IntN.{ℤ, pos}
+use lib.ListN.{replicate}
+use lib.Signed.{leZ}
+use Rattle.integers.specs.Integer.{minus, within, Within}
+use Rattle.integers.specs.Below.{allBelow}
+use Rattle.integers.specs.Words.{word, listBelow}
+use Rattle.points.specs.declared.Area.{Area}
+
+-- how many coordinates an array of a point holds; a sheet's points use the first k of them
+abbrev pub coordinates : ℕ
+coordinates = 4
+
+-- no bound of an area is farther from 0
+abbrev pub reach : ℕ
+reach = 2000000
+
+-- the larger and the lesser of two integers
+abbrev pub maxZ : ℤ → ℤ → ℤ
+maxZ a b = cond (leZ a b) b a
+
+abbrev pub minZ : ℤ → ℤ → ℤ
+minZ a b = cond (leZ a b) a b
+
+-- z lies in the area in dimension d
+unfoldable pub inAt : Area → ℕ → ℤ → Bool
+inAt a d z = within (word (a .low) d) (word (a .high) d) z
+
+-- p lies in the area, in each of the first k dimensions
+unfoldable pub inArea : ℕ → Area → List ℤ → Bool
+inArea k a p = allBelow k (λ d. inAt a d (word p d))
+
+-- every bound is within reach, so that sums of bounds fit an i64
+pub record Small (a : Area) : Type 0 where
+  pub lows : (d : ℕ) → Within reach (word (a .low) d)
+  pub highs : (d : ℕ) → Within reach (word (a .high) d)
+
+-- c is a, cut down to the points that pass a test
+pub record Cuts (k : ℕ) (a c : Area) (F : List ℤ → Bool) : Type 0 where
+  pub is : (p : List ℤ) → inArea k c p ≡ (inArea k a p && F p)
+  pub small : Small a → Small c
+
+-- a point's first k coordinates are within reach
+pub record InField (k : ℕ) (p : List ℤ) : Type 0 where
+  pub near : (d : ℕ) → d < k → Within reach (word p d)
+
+-- the area of those points
+unfoldable pub fieldArea : Area
+fieldArea = record { low = replicate coordinates (minus reach); high = replicate coordinates (pos reach) }
+
+-- an area as a run of words: its low point, then its high point
+abbrev pub areaWords : ℕ
+areaWords = 8
+
+unfoldable pub areaOf : List ℤ → Area
+areaOf words = record { low = listBelow coordinates (word words); high = listBelow coordinates (λ d. word words (coordinates + d)) }

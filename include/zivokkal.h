@@ -63,9 +63,9 @@
 
    There is no global state, no memory is allocated and no pointer is kept, so calls on different tables
    may run in different threads at once, also over one block. No function recurses. Nothing is proved
-   about the stack: where it was measured zk_settle, zk_narrow, zk_least and zk_greatest used 52 to 78 KB
-   of it (6,365 words of it are a list of what can forbid a row), the others less than 1 KB; 128 KB leave
-   room for changes.
+   about the stack: where it was measured zk_settle, zk_narrow, zk_least and zk_greatest used 62 to 66 KB
+   of it (most of it a list of what can forbid a row, and an outline of the block), zk_check_placement and
+   zk_point_allowed 13 KB, the others less than 1 KB; 128 KB leave room for changes.
 
    Time: every call ends, but there is no limit to it that helps in practice, and a call cannot be
    interrupted. Ordinary sheets settle in microseconds to milliseconds. Beside document 000's filtering in

@@ -3,7 +3,7 @@
 use mathlib.Core.List.{List}
 use mathlib.Core.Path.{_≡_}
 use mathlib.Core.Bool.{true, false}
-use Prim.Native.Nat.{ℕ, _+_, _*_, _≤_}
+use Prim.Native.Nat.{_+_, _*_, _≤_}
 use native.Mathlib.Nat.{mul-le-mul}
 use native.Mathlib.Omega.{arith}
 use borrow.Author.Tests.{ltb-false}
@@ -13,11 +13,9 @@ use lib.ListN.{length}
 use Rattle.integers.specs.Integer.{within}
 use Rattle.integers.specs.Words.{word}
 use Rattle.integers.proofs.Booleans.{not-false, and-true, or-false}
-use Rattle.integers.proofs.Ints.{ints, within-true}
 use Rattle.integers.proofs.Ranges.{nat-from}
 use Rattle.sheet.specs.Layout.{dims, boxes, rules}
 use Rattle.sheet.specs.Refusal.{badHead, badCounts}
-use Rattle.sheet.specs.Accepted.{Count}
 
 module _ (block : List ℤ) where
   pub head-long : badHead block ≡ false → 3 ≤ length block

@@ -1,6 +1,5 @@
 -- A call that is given a row, a shape and a dimension: what its checks leave (`Asked`), and its answers by case. Assumes nothing.
 use mathlib.Core.Path.{_≡_, refl}
-use mathlib.Core.Bool.{false}
 use mathlib.Core.List.{List}
 use mathlib.Core.Option.{Option}
 use Prim.Native.Nat.{ℕ, zero, suc, _<_}

@@ -88,7 +88,7 @@ pub fn search(
 }
 
 // The coordinate of such a point among those at which the row is allowed.
-pub fn extreme(
+fn extreme(
     block: &[i64],
     table: &[i64],
     outline: &[i64; OUTLINE],

@@ -13,7 +13,7 @@ pub struct Interval {
 
 // The origins at which the own extent overlaps the other one wherever the other's row stands from low to high: it ends past the other's start
 // where that row is highest, and starts before the other's end where it is lowest.
-pub fn overlapping(own: Extent, other: Extent, low: i64, high: i64) -> Interval
+pub(crate) fn overlapping(own: Extent, other: Extent, low: i64, high: i64) -> Interval
     requires { ⌜ Near own other low high ⌝ }
     ensures { λ x. ⌜ (x .from ≡ forbidFirst own other high) × (x .to ≡ forbidLast own other low)
         × Within reach (x .from) × Within reach (x .to) ⌝ }

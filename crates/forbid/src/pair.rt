@@ -68,7 +68,7 @@ fn side_forbids(
 }
 
 // Whether the pair forbids p: in every dimension that the rule names, and no further than the first that clears it.
-pub fn pair_forbids(
+pub(crate) fn pair_forbids(
     block: &[i64],
     table: &[i64],
     outline: &[i64; OUTLINE],

@@ -100,7 +100,7 @@ pub fn set_region(
 }
 
 // What row j forbids to row i, if it is another row and the rule names it.
-pub fn row_region(
+pub(crate) fn row_region(
     block: &[i64],
     table: &[i64],
     outline: &[i64; OUTLINE],

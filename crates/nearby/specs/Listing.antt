@@ -1,7 +1,7 @@
 -- The list of what can forbid a row with a shape the points of its ranges. Two statements carry it: every point of a known area is forbidden;
 -- and a point that is forbidden lies in a known area, or in the area of a suspect that forbids it. Assumes nothing.
 use mathlib.Core.Path.{_≡_}
-use mathlib.Core.Bool.{Bool, true, false}
+use mathlib.Core.Bool.{true, false}
 use mathlib.Core.List.{List}
 use Prim.Native.Nat.{ℕ, _+_, _≤_, _<_}
 use lib.IntN.{ℤ}

@@ -8,7 +8,7 @@ use points::Area;
 use points::COORDINATES;
 
 // Whether the area at `at` holds p, in the first k dimensions.
-pub fn area_holds(list: &[i64], at: usize, k: usize, p: [i64; COORDINATES]) -> bool
+pub(crate) fn area_holds(list: &[i64], at: usize, k: usize, p: [i64; COORDINATES]) -> bool
     requires { ⌜ (at + areaWords ≤ length (now list)) × (k ≤ coordinates) ⌝ }
     ensures { λ r. ⌜ r ≡ inArea k (areaAt (now (list .entry)) at) p ⌝ }
 {
@@ -23,7 +23,7 @@ pub fn area_holds(list: &[i64], at: usize, k: usize, p: [i64; COORDINATES]) -> b
 }
 
 // The area at `at`.
-pub fn area_at(list: &[i64], at: usize) -> Area
+pub(crate) fn area_at(list: &[i64], at: usize) -> Area
     requires { ⌜ at + areaWords ≤ length (now list) ⌝ }
     ensures { λ r. ⌜ r ≡ areaAt (now (list .entry)) at ⌝ }
 {
@@ -34,7 +34,7 @@ pub fn area_at(list: &[i64], at: usize) -> Area
 }
 
 // Puts an area at `at`.
-pub fn put_area(list: &mut [i64], at: usize, area: Area)
+pub(crate) fn put_area(list: &mut [i64], at: usize, area: Area)
     requires { ⌜ at + areaWords ≤ length (now list) ⌝ }
     ensures { λ _. ⌜ SameBut at areaWords (now (list .entry)) (now (list .exit)) × (areaAt (now (list .exit)) at ≡ area) ⌝ }
 {

@@ -39,7 +39,7 @@ pub struct Query {
 }
 
 // The hulls of shape t of row j and of shape s, which stand for all their boxes.
-pub fn hulls(r: Place, s: usize, j: Place, t: usize) -> Pair
+pub(crate) fn hulls(r: Place, s: usize, j: Place, t: usize) -> Pair
     requires { ⌜ (s < shapesMost) × (t < shapesMost) ⌝ }
     ensures { λ x. ⌜ x ≡ record { r = r; own = hullOf s; j = j; other = hullOf t } ⌝ }
 {

@@ -8,17 +8,16 @@ ghost use Rattle.nearby.specs.Places.{knownCount, knownMost};
 ghost use Rattle.nearby.specs.Known.{Counted, Remembered, KnownRegion};
 use crate::area;
 use forbid::Region;
+use points::AREA_WORDS;
 use points::Area;
 use points::COORDINATES;
 
-// The words of an area, the most areas, where the first stands after their count, and the words of the run.
-pub const AREA: usize = COORDINATES + COORDINATES;
-
-pub const AREAS: usize = 64;
+// The most areas, where the first stands after their count, and the words of the run.
+const AREAS: usize = 64;
 
 const FIRST: usize = 1;
 
-pub const KNOWN: usize = FIRST + AREA * AREAS;
+pub const KNOWN: usize = FIRST + AREA_WORDS * AREAS;
 
 // Writes how many areas there are.
 fn put_count(known: &mut [i64], n: usize)
@@ -29,14 +28,14 @@ fn put_count(known: &mut [i64], n: usize)
 }
 
 // No area is known; the words may have been any.
-pub fn clear(known: &mut [i64; KNOWN])
+pub(crate) fn clear(known: &mut [i64; KNOWN])
     ensures { λ _. ⌜ Counted (now (known .exit)) × (knownCount (now (known .exit)) ≡ 0) ⌝ }
 {
     put_count(known, 0);
 }
 
 // A known area that holds p, if there is one: the last one met is the likeliest.
-pub fn known_region(block: &[i64], known: &[i64; KNOWN], p: [i64; COORDINATES]) -> Region
+pub(crate) fn known_region(block: &[i64], known: &[i64; KNOWN], p: [i64; COORDINATES]) -> Region
     requires { ⌜ Head (now block) × Counted (now known) ⌝ }
     ensures { λ x. ⌜ KnownRegion (now (block .entry)) (now (known .entry)) p x ⌝ }
 {
@@ -44,7 +43,7 @@ pub fn known_region(block: &[i64], known: &[i64; KNOWN], p: [i64; COORDINATES]) 
     let mut e = words::count_at(known, 0);
     while e > 0 {
         e -= 1;
-        let at = FIRST + AREA * e;
+        let at = FIRST + AREA_WORDS * e;
         if area::area_holds(known, at, k, p) {
             return Region {
                 hit: true,
@@ -56,7 +55,7 @@ pub fn known_region(block: &[i64], known: &[i64; KNOWN], p: [i64; COORDINATES]) 
 }
 
 // Puts one area more, if there is room. Whether there was.
-pub fn remember(known: &mut [i64; KNOWN], area: Area) -> bool
+pub(crate) fn remember(known: &mut [i64; KNOWN], area: Area) -> bool
     requires { ⌜ Counted (now known) ⌝ }
     ensures { λ r. ⌜ Remembered (now (known .entry)) area r (now (known .exit)) ⌝ }
 {
@@ -64,7 +63,7 @@ pub fn remember(known: &mut [i64; KNOWN], area: Area) -> bool
     if n >= AREAS {
         return false;
     }
-    area::put_area(known, FIRST + AREA * n, area);
+    area::put_area(known, FIRST + AREA_WORDS * n, area);
     put_count(known, n + 1);
     true
 }

@@ -1,6 +1,6 @@
 // What can forbid a row with a shape. Suspects, each another row and a rule with an area that holds all they can forbid, are listed once,
 // before the sweeps of that row and shape. Known areas, in which every point is forbidden, are remembered by the sweeps.
-pub mod area;
+mod area;
 pub mod due;
 pub mod gather;
 pub mod known;

@@ -1,10 +1,12 @@
 // Suspects: another row and a rule, and an area that holds every point that they can forbid.
 ghost use mathlib.Core.Path.{_≡_};
-ghost use Prim.Native.Nat.{suc, _+_, _≤_};
+ghost use Prim.Native.Nat.{suc, _+_, _*_, _≤_};
+ghost use lib.Count.{ones};
 ghost use lib.IntN.{pos};
 ghost use lib.ListN.{length};
 ghost use Rattle.integers.specs.Words.{word};
-ghost use Rattle.sheet.specs.Layout.{axes};
+ghost use Rattle.integers.specs.Integer.{nat};
+ghost use Rattle.sheet.specs.Layout.{axes, rows};
 ghost use Rattle.sheet.specs.Allowed.{forbidden};
 ghost use Rattle.sheet.specs.Accepted.{Count, Head, Rows};
 ghost use Rattle.points.specs.Area.{areaWords};
@@ -14,17 +16,17 @@ ghost use Rattle.nearby.specs.Places.{suspectLen, suspectAt, suspectArea
 ghost use Rattle.nearby.specs.Listing.{Suspected};
 use crate::Nearby;
 use crate::area;
-use crate::known::AREA;
 use forbid::Region;
 use forbid::row;
 use outline::OUTLINE;
 use outline::rules;
+use points::AREA_WORDS;
 use points::Area;
 use points::COORDINATES;
 use words::Place;
 
 // The words of a suspect: its rule, its row, its area.
-pub const SUSPECT: usize = 2 + AREA;
+pub const SUSPECT: usize = 2 + AREA_WORDS;
 
 // How many suspects a caller makes room for: a few where there can be no more, and else many; and the words of each.
 pub const FEW: usize = 64;
@@ -36,13 +38,13 @@ pub const MANY_WORDS: usize = 512 * SUSPECT;
 // No row and shape has more suspects: the rows times the rules that count.
 pub fn most(block: &[i64], table: &[i64], outline: &[i64; OUTLINE]) -> usize
     requires { ⌜ Head (now block) × Rows (now block) (now table) × Count (word (now outline) rulesAt) ⌝ }
-    ensures { λ x. ⌜ x ≤ 1024 ⌝ }
+    ensures { λ x. ⌜ x ≡ rows (now (block .entry)) (now (table .entry)) * ones (nat (word (now (outline .entry)) rulesAt)) ⌝ }
 {
     words::rows_of(block, table) * rules::how_many(outline)
 }
 
 // Puts suspect e: rule r, row j and an area.
-pub fn put_suspect(suspects: &mut [i64], e: usize, r: usize, j: usize, area: Area)
+pub(crate) fn put_suspect(suspects: &mut [i64], e: usize, r: usize, j: usize, area: Area)
     requires { ⌜ (suspectAt (suc e) ≤ length (now suspects)) × (r ≤ 32) × (j ≤ 32) ⌝ }
     ensures { λ _. ⌜ SameBut (suspectAt e) suspectLen (now (suspects .entry)) (now (suspects .exit))
         × (word (now (suspects .exit)) (suspectAt e) ≡ pos r) × (word (now (suspects .exit)) (suspectAt e + 1) ≡ pos j)
@@ -55,7 +57,7 @@ pub fn put_suspect(suspects: &mut [i64], e: usize, r: usize, j: usize, area: Are
 }
 
 // What forbids p among the suspects whose area holds it, or where the list is not whole among all rules and rows.
-pub fn suspected_region(
+pub(crate) fn suspected_region(
     block: &[i64],
     table: &[i64],
     outline: &[i64; OUTLINE],

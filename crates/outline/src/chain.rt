@@ -38,7 +38,7 @@ fn link(block: &[i64], outline: &mut [i64; OUTLINE], b: usize)
 }
 
 // Links the boxes of each shape, from the last box to the first.
-pub fn link_boxes(block: &[i64], outline: &mut [i64; OUTLINE])
+pub(crate) fn link_boxes(block: &[i64], outline: &mut [i64; OUTLINE])
     requires { ⌜ Block (now block) ⌝ }
     ensures { λ _. ⌜ Chained (now (block .entry)) (now (outline .exit)) ⌝ }
 {

@@ -10,25 +10,25 @@ ghost use lib.IntN.{pos};
 ghost use lib.ListN.{length, set};
 ghost use Rattle.sheet.specs.Accepted.{Block};
 ghost use Rattle.outline.specs.Outline.{Outline};
-use points::COORDINATES;
+use points::AREA_WORDS;
 
 // ---- where the words stand: first the next box of each box's shape
 
 // The most boxes of a block, and one more than its greatest shape number.
-pub const BOXES: usize = 128;
+const BOXES: usize = 128;
 
-pub const SHAPES: usize = 33;
+const SHAPES: usize = 33;
 
 // The first box of shape s stands at FIRST + s.
-pub const FIRST: usize = BOXES;
+const FIRST: usize = BOXES;
 
 // The set of the rules that count.
-pub const RULES: usize = FIRST + SHAPES;
+const RULES: usize = FIRST + SHAPES;
 
 // Solid x starts at the words from SOLIDS + SOLID * x on, one for each dimension, and ends at the words COORDINATES further on.
-pub const SOLIDS: usize = RULES + 1;
+const SOLIDS: usize = RULES + 1;
 
-pub const SOLID: usize = COORDINATES + COORDINATES;
+const SOLID: usize = AREA_WORDS;
 
 // The words of an outline: the solids are the boxes, and after them the hulls of the shapes.
 pub const OUTLINE: usize = SOLIDS + SOLID * (BOXES + SHAPES);

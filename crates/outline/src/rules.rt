@@ -2,6 +2,7 @@
 ghost use mathlib.Core.Path.{_≡_};
 ghost use mathlib.Core.Bool.{Bool, true};
 ghost use Prim.Native.Nat.{ℕ, _+_, _^_, _<_, _≤_};
+ghost use lib.Count.{ones};
 ghost use lib.IntN.{pos};
 ghost use Rattle.integers.specs.Integer.{nat};
 ghost use Rattle.integers.specs.Bits.{bitAt, bit};
@@ -100,7 +101,7 @@ fn counted(block: &[i64]) -> u32
 }
 
 // Puts it.
-pub fn count_rules(block: &[i64], outline: &mut [i64; OUTLINE])
+pub(crate) fn count_rules(block: &[i64], outline: &mut [i64; OUTLINE])
     requires { ⌜ Block (now block) ⌝ }
     ensures { λ _. ⌜ SameTo rulesAt (now (outline .entry)) (now (outline .exit)) × Rules (now (block .entry)) (now (outline .exit)) ⌝ }
 {
@@ -127,7 +128,7 @@ pub fn counting(outline: &[i64; OUTLINE]) -> u32
 // How many rules count.
 pub fn how_many(outline: &[i64; OUTLINE]) -> usize
     requires { ⌜ Count (word (now outline) rulesAt) ⌝ }
-    ensures { λ x. ⌜ x ≤ 32 ⌝ }
+    ensures { λ x. ⌜ (x ≡ ones (nat (word (now (outline .entry)) rulesAt))) × (x ≤ 32) ⌝ }
 {
     u32::count_ones(words::set_at(outline, RULES)) as usize
 }

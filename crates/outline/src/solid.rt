@@ -77,7 +77,7 @@ fn put_box(block: &[i64], outline: &mut [i64; OUTLINE], b: usize)
 }
 
 // Puts every box.
-pub fn put_boxes(block: &[i64], outline: &mut [i64; OUTLINE])
+pub(crate) fn put_boxes(block: &[i64], outline: &mut [i64; OUTLINE])
     requires { ⌜ Block (now block) ⌝ }
     ensures { λ _. ⌜ SameTo (solidAt 0) (now (outline .entry)) (now (outline .exit)) × Boxes (now (block .entry)) (now (outline .exit)) ⌝ }
 {
@@ -136,7 +136,7 @@ fn put_hull(block: &[i64], outline: &mut [i64; OUTLINE], s: usize)
 }
 
 // Puts the hull of every shape that has a box.
-pub fn put_hulls(block: &[i64], outline: &mut [i64; OUTLINE])
+pub(crate) fn put_hulls(block: &[i64], outline: &mut [i64; OUTLINE])
     requires { ⌜ Block (now block) × Chained (now block) (now outline) × Boxes (now block) (now outline) ⌝ }
     ensures { λ _. ⌜ SameTo (solidAt (hullOf 0)) (now (outline .entry)) (now (outline .exit))
         × ((s : ℕ) → Boxed (now (block .entry)) s → Hull (now (block .entry)) (now (outline .exit)) s) ⌝ }

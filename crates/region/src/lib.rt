@@ -15,7 +15,7 @@ use points::COORDINATES;
 use points::REACH;
 use words::Place;
 
-// Row i's ranges, as such a run and as an area.
+// Row i's ranges as a run of words: the low point, then the high point.
 fn range_ends(block: &[i64], table: &[i64], i: Place) -> [i64; AREA_WORDS]
     requires { ⌜ Block (now block) × Table (now block) (now table) × RowPlace (now block) (now table) i ⌝ }
     ensures { λ x. ⌜ Cuts (axes (now (block .entry))) fieldArea (areaOf x)
@@ -30,15 +30,6 @@ fn range_ends(block: &[i64], table: &[i64], i: Place) -> [i64; AREA_WORDS]
         d += 1;
     }
     ends
-}
-
-pub fn row_area(block: &[i64], table: &[i64], i: Place) -> Area
-    requires { ⌜ Block (now block) × Table (now block) (now table) × RowPlace (now block) (now table) i ⌝ }
-    ensures { λ x. ⌜ Cuts (axes (now (block .entry))) fieldArea x
-        (inRanges (now (block .entry)) (now (table .entry)) (i .number)) ⌝ }
-{
-    let ends = range_ends(block, table, i);
-    points::area_of(&ends)
 }
 
 // ---- the cut box

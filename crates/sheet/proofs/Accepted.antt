@@ -133,7 +133,8 @@ module _ (block : List ℤ) where
         set-from = set .0;
         set-upto = set .1;
         boxed = λ s h.
-            let w = any-at (implies-true (upto-at (shape-test t i) (q .1) s (member-ge-1 (shapeSet block t i) h) (small-set {n = 32} (set .1) h)) h) in
+            let w = any-at (implies-true (upto-at (shape-test t i) (q .1) s (member-ge-1 (shapeSet block t i) h)
+            (small-set {n = 32} (set .1) h)) h) in
             record { box = w .0; below = w .1; is = w .2 };
         low-in = λ d l. ends d l .0;
         high-in = λ d l. ends d l .1;

@@ -123,7 +123,8 @@ module _ (block : List ℤ) (table : List ℤ) where
           (at-all (λ r hr. true-implies (λ kind.
           at-upto (λ j. namesRow block r j ⇒ allUpTo (rows block table) (λ i. ltb i j && namesRow block r i ⇒ noOverlap block table r i j))
           (λ j j1 jn. true-implies (λ nj.
-          at-upto (λ i. ltb i j && namesRow block r i ⇒ noOverlap block table r i j) (λ i i1 iN. true-implies (λ e. let x = and-true {a = ltb i j} e in
+          at-upto (λ i. ltb i j && namesRow block r i ⇒ noOverlap block table r i j)
+          (λ i i1 iN. true-implies (λ e. let x = and-true {a = ltb i j} e in
           at-upto (shape-one r i j) (λ s s1 s32. true-implies (λ ti.
           at-upto (shape-two r i j s) (λ s' t1 t32. true-implies (λ tj.
           at-all (λ b hb. true-implies (λ ib.
@@ -234,4 +235,5 @@ module _ (block : List ℤ) (table : List ℤ) where
 pub demand-2 : (block : List ℤ) (table : List ℤ) → refusalPlacement block table ≡ 0 → good block table ≡ catalogueGood block table
 unfolding refusalPlacement notFixed
 demand-2 block table g =
-    good-is-catalogue block table (not-false (when-zero 11 (notFixed block table) (else-zero (refusal block table) (12 when notFixed block table) g .1)))
+    good-is-catalogue block table
+    (not-false (when-zero 11 (notFixed block table) (else-zero (refusal block table) (12 when notFixed block table) g .1)))

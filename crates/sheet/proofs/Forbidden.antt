@@ -94,7 +94,8 @@ module _ (block : List ℤ) (table : List ℤ) where
   pub set-by : (r i s j : ℕ) (p : List ℤ) → OneShape r p i s j → setForbids block table r p i s j ≡ true
   unfolding setForbids
   set-by r i s j p f =
-      upto-some (λ x. hasOnly block table j x && shapesForbid block table r p i s j x) (f .shape) (f .from) (f .upto) (true-and (f .only) (f .forbids))
+      upto-some (λ x. hasOnly block table j x && shapesForbid block table r p i s j x) (f .shape) (f .from) (f .upto)
+      (true-and (f .only) (f .forbids))
 
   pub set-parts : (r i s j : ℕ) (p : List ℤ) → setForbids block table r p i s j ≡ true → OneShape r p i s j
   unfolding setForbids

@@ -54,7 +54,8 @@ module _ (block : List ℤ) (u t : List ℤ) (inside : Inside block u t)
         lin (v (low block u j d) ⊕ v (offset block c d) ⊕ v (size block c d) ⊖ v (offset block b d) ⊖ v (pos 1)),
       )
 
-  pairs : (r : ℕ) (p : List ℤ) (i b j c : ℕ) → 1 ≤ j → j ≤ rows block t → pairForbids block t r p i b j c ≡ true → pairForbids block u r p i b j c ≡ true
+  pairs : (r : ℕ) (p : List ℤ) (i b j c : ℕ) → 1 ≤ j → j ≤ rows block t → pairForbids block t r p i b j c ≡ true
+      → pairForbids block u r p i b j c ≡ true
   pairs r p i b j c h k e =
       pair-by block u r i b j c p (λ d l n.
       let w = pair-at block t r i b j c d p e l n in

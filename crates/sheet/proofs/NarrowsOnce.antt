@@ -1,7 +1,6 @@
 -- There is one way to narrow a row: two findings that `Narrows` asks are equal (`narrows-unique`), so whatever shows `Narrows` finds
 -- `narrowOf` (`narrow-is`). Assumes nothing.
 use mathlib.Core.Path.{_≡_, refl, sym, ap, _∙_, subst}
-use mathlib.Core.Logic.{⊎-elim}
 use mathlib.Core.List.{List}
 use mathlib.Core.Option.{Option, none, some}
 use Prim.Native.Nat.{ℕ, suc, _≤_, _<_}
@@ -9,7 +8,7 @@ use native.Mathlib.Omega.{arith}
 use lib.IntN.{ℤ, pos}
 use lib.Signed.{_≤ℤ_}
 use Rattle.integers.proofs.Booleans.{both-ways}
-use Rattle.integers.proofs.Below.{here-and-else, same-or}
+use Rattle.integers.proofs.Below.{here-and-else}
 use Rattle.integers.proofs.Ints.{ints, ≤ℤ-antisym}
 use Rattle.integers.proofs.Sets.{set-ext, set-ge-1}
 use Rattle.sheet.specs.Layout.{axes, rows, shapeSet, low, high, hasShape}
@@ -45,10 +44,13 @@ module _ (block : List ℤ) (t : List ℤ) (i : ℕ) (from : 1 ≤ i) where
         rows-ext block v w whole (a .as-long ∙ sym (b .as-long))
         (λ m h. here-and-else i (λ (q : ℕ). 1 ≤ q → shapeSet block v q ≡ shapeSet block w q) (λ k. same-set)
         (λ q ne k. set-other block t v i from (a .others) q k ne ∙ sym (set-other block t w i from (b .others) q k ne)) (suc m) (omega arith))
-        (λ m d h l. here-and-else i (λ (q : ℕ). 1 ≤ q → low block v q d ≡ low block w q d) (λ k. ≤ℤ-antisym (low-least v w a b d l) (low-least w v b a d l))
+        (λ m d h l. here-and-else i (λ (q : ℕ). 1 ≤ q → low block v q d ≡ low block w q d)
+        (λ k. ≤ℤ-antisym (low-least v w a b d l) (low-least w v b a d l))
         (λ q ne k. low-other block t v i from (a .others) q d k ne l ∙ sym (low-other block t w i from (b .others) q d k ne l)) (suc m) (omega arith))
-        (λ m d h l. here-and-else i (λ (q : ℕ). 1 ≤ q → high block v q d ≡ high block w q d) (λ k. ≤ℤ-antisym (high-most v w a b d l) (high-most w v b a d l))
-        (λ q ne k. high-other block t v i from (a .others) q d k ne l ∙ sym (high-other block t w i from (b .others) q d k ne l)) (suc m) (omega arith))
+        (λ m d h l. here-and-else i (λ (q : ℕ). 1 ≤ q → high block v q d ≡ high block w q d)
+        (λ k. ≤ℤ-antisym (high-most v w a b d l) (high-most w v b a d l))
+        (λ q ne k. high-other block t v i from (a .others) q d k ne l ∙ sym (high-other block t w i from (b .others) q d k ne l)) (suc m)
+        (omega arith))
 
   pub narrows-unique : Rows block t → (o o' : Option (List ℤ)) → Narrows block t i o → Narrows block t i o' → o ≡ o'
   narrows-unique whole none none x y = refl

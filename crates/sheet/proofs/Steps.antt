@@ -2,13 +2,12 @@
 -- (`narrowed-inside`), keeps `Table` (`narrowed-table`), and every settled table inside the one before lies inside it (`narrowed-keeps`).
 -- Assumes nothing.
 use mathlib.Core.Path.{_≡_, sym, _∙_, subst, subst⁻¹}
-use mathlib.Core.Logic.{⊎-elim}
 use mathlib.Core.Bool.{true}
 use mathlib.Core.List.{List}
 use Prim.Native.Nat.{ℕ, _≤_, _<_}
 use lib.IntN.{ℤ}
 use lib.Signed.{_≤ℤ_, ≤ℤ-refl}
-use Rattle.integers.proofs.Below.{here-and-else, same-or}
+use Rattle.integers.proofs.Below.{here-and-else}
 use Rattle.integers.proofs.Ints.{ints, ≤ℤ-trans}
 use Rattle.sheet.specs.Layout.{axes, rows, low, high, hasShape}
 use Rattle.sheet.specs.Narrow.{Stands, Reached, Narrowed}
@@ -102,7 +101,8 @@ module _ (block : List ℤ) where
               (row-of q k);
           highs = λ q d h k l. here-and-else i (λ (q : ℕ). 1 ≤ q → q ≤ rows block t → high block u q d ≤ℤ high block v q d)
               (λ h k. let r = s .highs i d h (rows-of dims u t s x i k) l in
-              subst (λ (z : ℤ). z ≤ℤ high block v i d) (r .there) (n .bounds (r .point) (stands-outside dims u t s x i (r .point) h k (r .by)) d l .1))
+              subst (λ (z : ℤ). z ≤ℤ high block v i d) (r .there)
+              (n .bounds (r .point) (stands-outside dims u t s x i (r .point) h k (r .by)) d l .1))
               (λ q ne h k. subst⁻¹ (λ (z : ℤ). high block u q d ≤ℤ z) (high-other block t v i from (n .others) q d h ne l) (x .highs q d h k l)) q h
               (row-of q k);
           shapes = λ q j h k. here-and-else i (λ (q : ℕ). 1 ≤ q → q ≤ rows block t → hasShape block u q j ≡ true → hasShape block v q j ≡ true)

@@ -40,7 +40,8 @@ module _ (block : List ℤ) where
     pub highs : (d : ℕ) → d < axes block → Reached table i d (high block after i d)
     pub bounds : (p : List ℤ) → Stands table i p → (d : ℕ) → d < axes block → (low block after i d ≤ℤ word p d) × (word p d ≤ℤ high block after i d)
     -- the shapes with such a point
-    pub shapes : (s : ℕ) → (hasShape block after i s ≡ true) ↔ ((hasShape block table i s ≡ true) × ((p : List ℤ) × (allowed block table i s p ≡ true)))
+    pub shapes : (s : ℕ)
+        → (hasShape block after i s ≡ true) ↔ ((hasShape block table i s ≡ true) × ((p : List ℤ) × (allowed block table i s p ≡ true)))
 
   -- 'no place' exactly when no point is allowed
   pub data Narrows (table : List ℤ) (i : ℕ) : Option (List ℤ) → Type 0 where

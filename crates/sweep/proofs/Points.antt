@@ -1,6 +1,6 @@
 -- The laws of points: one past each word, the lesser words of two points, and a point that a loop makes word by word.
 -- Assumes nothing.
-use mathlib.Core.Path.{_≡_, refl, ap, _∙_}
+use mathlib.Core.Path.{_≡_, refl, _∙_}
 use mathlib.Core.Bool.{Bool, true, false, cond}
 use mathlib.Core.List.{List, [], _∷_, _++_, map, zipWith, append-nil}
 use Prim.Native.Nat.{ℕ, zero, suc, _+_, _^_, _≤_, _<_, min}
@@ -9,7 +9,7 @@ use native.Mathlib.Numerals.{add-one}
 use native.Mathlib.Nat.{zero-add, not-suc-le-zero, le-of-suc-le-suc}
 use lib.Dec.{T, ltb}
 use lib.IntN.{ℤ, pos, _+ℤ_}
-use lib.Signed.{_≤ℤ_, _<ℤ_, leZ}
+use lib.Signed.{_<ℤ_, leZ}
 use lib.ListN.{length, set, take, drop, length-map, drop-of-length-le}
 use lib.Seq.{paste-suc, take-all, length-take-le, drop-cons, getD-at}
 use mir.Syntax.{w64}
@@ -17,7 +17,7 @@ use mir.Val.{SFits, toZ, ofZ}
 use mir.Facts.{toZ-ofZ}
 use Rattle.integers.specs.Integer.{Within}
 use Rattle.integers.specs.Words.{word}
-use Rattle.integers.proofs.Ints.{ints, test-of-le}
+use Rattle.integers.proofs.Ints.{ints}
 use Rattle.integers.proofs.Machine.{within-weaken, within-sum, within-fits}
 use Rattle.points.specs.Area.{minZ}
 use Rattle.sweep.specs.Point.{reach, Near, next, nexts, lessers}

@@ -1,7 +1,7 @@
 -- A record's number and where its first word stands, for each kind of record. Assumes nothing.
 use mathlib.Core.Path.{_≡_}
 use mathlib.Core.List.{List}
-use Prim.Native.Nat.{ℕ, _≤_, _<_}
+use Prim.Native.Nat.{_≤_, _<_}
 use lib.IntN.{ℤ}
 use Rattle.sheet.specs.Layout.{boxes, rules, boxAt, ruleAt, rowAt, rows}
 use Rattle.words.specs.declared.Place.{Place}

@@ -9,38 +9,28 @@ use Rattle.bounds.proofs.Calls.{answer-at, answer-none}
 use borrow.Author.Needs.{needs}
 use Rattle.bounds.proofs.bound_in.Statement.{statement}
 use Rattle.bounds.proofs.bound_in.Tie as tie
-use Rattle.bounds.proofs.bound_in.Reads as reads
-use Rattle.bounds.proofs.bound_in.Lts as lts
-use Rattle.bounds.proofs.extreme.Reads as extreme-reads
 
--- src/lib.rt:135:11
 extreme-requires : tie.Need-extreme-requires
 extreme-requires c κs = search needs
 
--- src/lib.rt:136:19
 enum-known-z : tie.Need-enum-known-z
 enum-known-z c = search needs
 
--- src/lib.rt:137:27
 enum-told : tie.Need-enum-told
 enum-told c = search needs
 
--- src/lib.rt:122:1
 same-length : tie.Need-same-length
 same-length c = search needs
 
--- src/lib.rt:122:1
 returns : tie.Need-returns
 returns c =
     let x = c .before .before .before .before in
     let f : SFits w64 (c .before .z .given .0 .0) = search needs in
     ap B.At (toZ-ofZ f) ∙ answer-at (c .before .z .given .0 .0) refl (ap coordinate (sym (c .before .z .given .1)) ∙ x .extreme .ensures)
 
--- src/lib.rt:122:1
 same-length-2 : tie.Need-same-length-2
 same-length-2 c = search needs
 
--- src/lib.rt:122:1
 returns-2 : tie.Need-returns-2
 returns-2 c = answer-none refl (ap coordinate (sym (c .enum-told .given .1)) ∙ c .before .before .before .extreme .ensures)
 

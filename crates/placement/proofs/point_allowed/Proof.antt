@@ -8,7 +8,7 @@ use mir.Val.{toZ, ofZ}
 use mir.Facts.{toZ-ofZ}
 use Rattle.integers.specs.Integer.{nat}
 use Rattle.integers.proofs.Machine.{cast-ok}
-use Rattle.sheet.specs.Layout.{rows, hasShape}
+use Rattle.sheet.specs.Layout.{rows}
 use Rattle.sheet.specs.Allowed.{allowed}
 use Rattle.sheet.specs.Accepted.{Boxed}
 use Rattle.sheet.specs.Refusal.{refusalShape}

@@ -1,7 +1,7 @@
 -- `settle::touched_if` meets its contract: a rule that does not count says nothing here, and one of another kind or that does not name row i
 -- spares every row. Assumes nothing.
 use mathlib.Core.Path.{_≡_, sym, ap, _∙_, subst}
-use mathlib.Core.Bool.{Bool, _&&_}
+use mathlib.Core.Bool.{_&&_}
 use Prim.Native.Nat.{ℕ}
 use native.Mathlib.Omega.{arith}
 use borrow.Author.Needs.{needs}

@@ -9,7 +9,6 @@ use lib.ListN.{length}
 use Rattle.integers.proofs.Machine.{bnd, num, _-ʷ_, diff-fits, exact}
 use Rattle.points.specs.Area.{coordinates}
 use Rattle.sweep.specs.Point.{mirror}
-use Rattle.sweep.specs.Rotation.{}
 use Rattle.sweep.proofs.Points.{Made, made-none, made-more, made-all}
 use Rattle.sweep.proofs.Mirror.{length-mirror, word-mirror}
 use Rattle.sweep.proofs.mirrored.Statement.{statement}

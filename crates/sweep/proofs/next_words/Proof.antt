@@ -8,7 +8,6 @@ use lib.ListN.{length}
 use Rattle.integers.proofs.Machine.{bnd, num, _+ʷ_, exact}
 use Rattle.points.specs.Area.{coordinates}
 use Rattle.sweep.specs.Point.{nexts}
-use Rattle.sweep.specs.Rotation.{}
 use Rattle.sweep.proofs.Points.{near-fits, Made, made-none, made-more, made-all, length-nexts, word-nexts}
 use Rattle.sweep.proofs.next_words.Statement.{statement}
 use Rattle.sweep.proofs.next_words.Tie as tie

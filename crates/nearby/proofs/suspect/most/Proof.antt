@@ -1,4 +1,5 @@
--- `nearby::suspect::most` meets its contract: 32 rows times 32 rules are 1,024. Assumes nothing.
+-- `nearby::suspect::most` meets its contract: 32 rows times 32 rules fit. Assumes nothing.
+use mathlib.Core.Path.{ap₂}
 use Prim.Native.Nat.{_*_, _≤_}
 use native.Mathlib.Nat.{mul-le-mul-right}
 use native.Mathlib.Omega.{arith}
@@ -12,17 +13,14 @@ rows-of-requires c κs = search needs
 how-many-requires : tie.Need-how-many-requires
 how-many-requires c κs = search needs
 
-few : (c : tie.After-how-many) → c .before .rows-of .result * c .how-many .result ≤ 1024
-few c =
+mul-result : tie.Need-mul-result
+mul-result c =
     let n = c .before .rows-of .result in
     let h : n ≤ 32 = omega (arith, c .before .rows-of .ensures, c .before .before .pre .1 .few-rows) in
-    omega (arith, mul-le-mul-right (c .how-many .result) h, c .how-many .ensures)
-
-mul-result : tie.Need-mul-result
-mul-result c = omega (arith, few c)
+    omega (arith, mul-le-mul-right (c .how-many .result) h, c .how-many .ensures .1)
 
 returns : tie.Need-returns
-returns c = few c
+returns c = ap₂ _*_ (c .before .rows-of .ensures) (c .how-many .ensures .0)
 
 pub most-spec : {M : Type 1} → statement M
 most-spec = tie.close (tie.spec rows-of-requires how-many-requires mul-result returns)

@@ -1,4 +1,5 @@
 -- `outline::rules::how_many` meets its contract: a number of 32 bits has no more ones. Assumes nothing.
+use mathlib.Core.Path.{ap}
 use Prim.Native.Nat.{_≤_}
 use native.Mathlib.Omega.{arith}
 use borrow.Author.Needs.{needs}
@@ -16,7 +17,7 @@ cast-result : tie.Need-cast-result
 cast-result c = omega (arith, few c)
 
 returns : tie.Need-returns
-returns c = few c
+returns c = (ap ones (c .set-at .ensures), few c)
 
 pub how-many-spec : {M : Type 1} → statement M
 how-many-spec = tie.close (tie.spec set-at-requires cast-result returns)

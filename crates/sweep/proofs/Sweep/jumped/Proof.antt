@@ -10,7 +10,6 @@ use Rattle.integers.specs.Words.{word}
 use Rattle.integers.proofs.Machine.{bnd, num, _+ʷ_, exact, fits-word}
 use Rattle.points.specs.Area.{coordinates, minZ}
 use Rattle.sweep.specs.Point.{nexts, lessers}
-use Rattle.sweep.specs.Rotation.{}
 use Rattle.sweep.specs.Moves.{jumpedPast}
 use Rattle.sweep.proofs.Points.{near-fits, Made, made-none, made-more, made-word, made-all}
 use Rattle.sweep.proofs.Points.{length-nexts, word-nexts, length-lessers, word-lessers}

@@ -1,5 +1,5 @@
-// Larger sheets by chance, with narrow ranges: as many rows and boxes as each length of the kernel's list is made for (32, 128 and 540
-// entries), once so many that the list of a row can hold every box of the others and once so many that it cannot.
+// Larger sheets by chance, with narrow ranges, for what small ones cannot fill: the kernel's suspects, with room to spare and full, and both
+// lengths of them.
 use super::generate::Lengths;
 use super::generate::put_head;
 use super::layout;
@@ -14,11 +14,11 @@ use super::numbers::put;
 // How many kinds of larger sheets there are.
 pub const KINDS: usize = 6;
 
-// Rows and boxes of a kind.
+// Rows, boxes and rules of a kind.
 fn rows_of(kind: usize) -> usize {
     match kind {
-        0 | 1 | 2 | 3 => 8,
-        4 => 32,
+        0 | 1 => 8,
+        2 | 3 => 32,
         _ => 24,
     }
 }
@@ -26,11 +26,18 @@ fn rows_of(kind: usize) -> usize {
 fn boxes_of(kind: usize) -> usize {
     match kind {
         0 => 4,
-        1 => 8,
-        2 => 16,
-        3 => 32,
+        1 => 32,
+        2 => 1,
+        3 => 3,
         4 => 16,
         _ => 32,
+    }
+}
+
+fn rules_of(kind: usize) -> usize {
+    match kind {
+        2 | 3 => 20,
+        _ => 1,
     }
 }
 
@@ -50,20 +57,37 @@ fn put_boxes(seed: &mut usize, block: &mut [i64], k: usize, n: usize) {
     }
 }
 
-// No two rows overlap, in every dimension.
-fn put_rule(block: &mut [i64], k: usize, boxes: usize, n: usize) {
-    let at = layout::rule_place(k, boxes, 0);
+// No two rows but row r + 1 overlap, in the dimensions of a set: of rules that leave out different rows none covers another.
+fn put_rule(block: &mut [i64], at: usize, n: usize, r: usize, dims: i64) {
     put(block, at, 1);
-    put(
-        block,
-        plus(at, 1),
-        numbers::word_of(numbers::before(power(k))),
-    );
+    put(block, plus(at, 1), dims);
     put(
         block,
         plus(at, 2),
-        numbers::word_of(numbers::before(power(n))),
+        numbers::difference(
+            numbers::word_of(numbers::before(power(n))),
+            numbers::set_of(r),
+        ),
     );
+}
+
+// The twentieth rule leaves out the first dimension, so that it forbids more than the others: a list that drops what it has no room for is
+// told.
+fn left_out(r: usize) -> i64 {
+    if r == 19 { 1 } else { 0 }
+}
+
+fn put_rules(block: &mut [i64], k: usize, boxes: usize, n: usize, rules: usize) {
+    let all = numbers::word_of(numbers::before(power(k)));
+    for r in 0..rules {
+        put_rule(
+            block,
+            layout::rule_place(k, boxes, r),
+            n,
+            r,
+            numbers::difference(all, left_out(r)),
+        );
+    }
 }
 
 // A range of one or two numbers in each dimension.
@@ -93,12 +117,13 @@ pub(crate) fn sheet(
     let k = plus(3, below(seed, 2));
     let n = rows_of(kind);
     let boxes = boxes_of(kind);
-    put_head(block, k, boxes, 1);
+    let rules = rules_of(kind);
+    put_head(block, k, boxes, rules);
     put_boxes(seed, block, k, boxes);
-    put_rule(block, k, boxes, n);
+    put_rules(block, k, boxes, n, rules);
     put_rows(seed, table, k, n);
     Lengths {
-        block: layout::rule_place(k, boxes, 1),
+        block: layout::rule_place(k, boxes, rules),
         table: layout::row_place(k, n),
     }
 }

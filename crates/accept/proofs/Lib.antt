@@ -3,5 +3,7 @@ pub mod Opening
 pub mod Tests
 pub mod Marks
 pub mod Chain
-pub mod Asked
+pub mod Stages
+pub mod Numbers
+pub mod Slices
 pub mod Shapes

@@ -1,6 +1,5 @@
 -- The flags of the shapes that have a box, after the first m boxes: none at the start, and one more flag for each box.
 -- Assumes nothing.
-use lib.IntN.{ℤ}
 use mathlib.Core.Path.{_≡_, refl, sym, ap, _∙_, subst}
 use mathlib.Core.Logic.{_⊎_, inl, inr}
 use mathlib.Core.Bool.{Bool, true, false, _||_}
@@ -9,7 +8,7 @@ use Prim.Native.Nat.{ℕ, _+_, _<_}
 use native.Mathlib.Omega.{arith}
 use borrow.Author.Tests.{eq-eqb, ne-eqb}
 use lib.Dec.{eqb}
-use lib.IntN.{pos}
+use lib.IntN.{ℤ, pos}
 use lib.ListN.{length, getD, set, replicate, length-set, getD-replicate}
 use lib.Seq.{getD-set-same, getD-set-other}
 use lib.Signed.{_≤ℤ_}
@@ -23,14 +22,14 @@ use Rattle.sheet.specs.Layout.{boxes, shapeOf, isOf, validBox}
 use Rattle.sheet.specs.Refusal.{badBox}
 use Rattle.accept.specs.Parts.{Flags}
 
+pub record Marks (block : List ℤ) (m : ℕ) (flags : List Bool) : Type 0 where
+  pub long : length flags ≡ 33
+  pub each : (s : ℕ) → s < 33 → getD flags s false ≡ anyBelow m (λ b. isOf block b s)
+
 -- check 6 has passed
 pub box-shape : (block : List ℤ) {b : ℕ} → badBox block ≡ false → b < boxes block → within (pos 1) (pos 32) (shapeOf block b) ≡ true
 unfolding badBox validBox
 box-shape block {b} e h = and-true (all-at (validBox block) (not-false e) b h) .0
-
-pub record Marks (block : List ℤ) (m : ℕ) (flags : List Bool) : Type 0 where
-  pub long : length flags ≡ 33
-  pub each : (s : ℕ) → s < 33 → getD flags s false ≡ anyBelow m (λ b. isOf block b s)
 
 pub marks-none : (block : List ℤ) → Marks block 0 (replicate 33 false)
 marks-none block = record { long = refl; each = λ s h. getD-replicate 33 s false false h ∙ sym (any-zero (λ b. isOf block b s)) }

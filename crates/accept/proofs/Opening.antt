@@ -18,16 +18,16 @@ use Rattle.sheet.specs.Layout.{dims, boxes, rules}
 use Rattle.sheet.specs.Refusal.{badHead, badCounts}
 
 module _ (block : List ℤ) where
-  pub head-long : badHead block ≡ false → 3 ≤ length block
-  unfolding badHead
-  head-long h = ltb-false _ 3 (or-false {a = ltb (length block) 3} h .0)
-
   -- the three words are in their ranges
   pub record Opening : Type 0 where
     pub long : 3 ≤ length block
     pub k-in : within (pos 1) (pos 4) (word block 0) ≡ true
     pub b-in : within (pos 1) (pos 128) (word block 1) ≡ true
     pub r-in : within (pos 0) (pos 32) (word block 2) ≡ true
+
+  pub head-long : badHead block ≡ false → 3 ≤ length block
+  unfolding badHead
+  head-long h = ltb-false _ 3 (or-false {a = ltb (length block) 3} h .0)
 
   pub opening : badHead block ≡ false → badCounts block ≡ false → Opening
   unfolding badHead badCounts
@@ -39,11 +39,11 @@ module _ (block : List ℤ) where
   unfolding dims
   few-dims o = nat-from (word block 0) (o .k-in) .1
 
-  pub few-boxes : Opening → boxes block ≤ 128
+  few-boxes : Opening → boxes block ≤ 128
   unfolding boxes
   few-boxes o = nat-from (word block 1) (o .b-in) .1
 
-  pub few-rules : Opening → rules block ≤ 32
+  few-rules : Opening → rules block ≤ 32
   unfolding rules
   few-rules o = nat-from (word block 2) (o .r-in) .1
 

@@ -11,7 +11,7 @@ use Rattle.sheet.specs.Layout.{shapeSet, hasShape}
 use Rattle.sheet.specs.Refusal.{_when_, noSuchShape, refusal, refusalRow, refusalShape}
 use Rattle.sheet.specs.Accepted.{Count, Boxed}
 use Rattle.sheet.proofs.Accepted.{when-zero, else-zero, accepted-rows, accepted-table}
-use Rattle.accept.proofs.Asked.{RowNumber, row-number, row-accepted}
+use Rattle.accept.proofs.Numbers.{RowNumber, row-number, row-accepted}
 
 pub record ShapeAsked (block t : List ℤ) (row shape : ℤ) : Type 0 where
   pub accepted : refusal block t ≡ 0

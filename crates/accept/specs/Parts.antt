@@ -1,5 +1,5 @@
--- Parts of the tests of a box, a rule and a row (crates/sheet/specs/Layout.antt) that the code computes one by one; and the flags of the
--- shapes that have a box. Assumes nothing.
+-- Parts of the tests of a box, a rule and a row (crates/sheet/specs/Layout.antt) that the code computes one by one; the flags of the shapes
+-- that have a box; and what the first parts leave of a rule and of a row (`SetRule`, `SetRow`). Assumes nothing.
 use mathlib.Core.Path.{_≡_}
 use mathlib.Core.Bool.{Bool, false, _&&_}
 use mathlib.Core.List.{List}
@@ -9,7 +9,10 @@ use lib.ListN.{getD}
 use lib.Signed.{leZ}
 use Rattle.integers.specs.Integer.{minus, eqZ, within}
 use Rattle.integers.specs.Below.{_⇒_, anyBelow}
-use Rattle.sheet.specs.Layout.{boxes, offset, size, isOf, low, high, hasShape}
+use Rattle.sheet.specs.Layout.{boxes, offset, size, isOf, kind, dimSet, low, high, shapeSet, hasShape}
+use Rattle.sheet.specs.Accepted.{Count}
+use Rattle.words.specs.declared.Place.{Place}
+use Rattle.words.specs.Places.{RulePlace, RowPlace}
 
 -- the offset and the size of box b in dimension d
 abbrev pub validExtent : List ℤ → ℕ → ℕ → Bool
@@ -36,3 +39,14 @@ shapeBoxed block table i s = hasShape block table i s ⇒ boxed block s
 -- a flag for each shape; there is no shape 0
 pub record Flags (block : List ℤ) (flags : List Bool) : Type 0 where
   pub each : (s : ℕ) → s < 33 → getD flags s false ≡ boxed block s
+
+-- a rule whose kind and dimension set have passed, and a row whose shape set has
+pub record SetRule (block : List ℤ) (r : Place) : Type 0 where
+  pub place : RulePlace block r
+  pub kind-count : Count (kind block (r .number))
+  pub dims-count : Count (dimSet block (r .number))
+
+pub record SetRow (block table : List ℤ) (i : Place) (flags : List Bool) : Type 0 where
+  pub place : RowPlace block table i
+  pub set-count : Count (shapeSet block table (i .number))
+  pub flags-of : Flags block flags

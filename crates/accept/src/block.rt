@@ -3,11 +3,11 @@ ghost use mathlib.Core.Path.{_≡_};
 ghost use mathlib.Core.Bool.{false, _&&_};
 ghost use Prim.Native.Nat.{_<_, _≤_};
 ghost use Rattle.integers.specs.Below.{allBelow};
-ghost use Rattle.sheet.specs.Layout.{dims, kind, isContainment, dimSet, namesDim, validBox, validEnds, validRule};
+ghost use Rattle.sheet.specs.Layout.{dims, isContainment, namesDim, validBox, validEnds, validRule};
 ghost use Rattle.sheet.specs.Refusal.{badHead, badCounts, badBlockLength, badBox, badRule};
-ghost use Rattle.sheet.specs.Accepted.{Count, Head, Rows};
+ghost use Rattle.sheet.specs.Accepted.{Head, Rows};
 ghost use Rattle.words.specs.Places.{BoxPlace, RulePlace};
-ghost use Rattle.accept.specs.Parts.{validExtent};
+ghost use Rattle.accept.specs.Parts.{validExtent, SetRule};
 use super::range;
 use words::Place;
 
@@ -54,14 +54,14 @@ pub fn bad_box(block: &[i64]) -> bool
 }
 
 fn valid_box(block: &[i64], b: Place) -> bool
-    requires { ⌜ Head (now block) × BoxPlace (now block) b ⌝ }
+    requires { ⌜ BoxPlace (now block) b ⌝ }
     ensures { λ r. ⌜ r ≡ validBox (now (block .entry)) (b .number) ⌝ }
 {
     words::is_within(words::shape_of(block, b), 1, 32) && valid_extents(block, b)
 }
 
 fn valid_extents(block: &[i64], b: Place) -> bool
-    requires { ⌜ Head (now block) × BoxPlace (now block) b ⌝ }
+    requires { ⌜ BoxPlace (now block) b ⌝ }
     ensures { λ r. ⌜ r ≡ allBelow (dims (now (block .entry))) (validExtent (now (block .entry)) (b .number)) ⌝ }
 {
     let k = words::dims_of(block);
@@ -76,7 +76,7 @@ fn valid_extents(block: &[i64], b: Place) -> bool
 }
 
 fn valid_extent(block: &[i64], b: Place, d: usize) -> bool
-    requires { ⌜ Head (now block) × BoxPlace (now block) b × (d < dims (now block)) ⌝ }
+    requires { ⌜ BoxPlace (now block) b × (d < dims (now block)) ⌝ }
     ensures { λ r. ⌜ r ≡ validExtent (now (block .entry)) (b .number) d ⌝ }
 {
     words::is_within(words::offset_of(block, b, d), -10000, 10000)
@@ -101,9 +101,9 @@ pub fn bad_rule(block: &[i64], table: &[i64]) -> bool
     false
 }
 
-// In a sheet of n rows.
+// Whether rule r is valid in a sheet of n rows.
 fn valid_rule(block: &[i64], r: Place, n: usize) -> bool
-    requires { ⌜ Head (now block) × RulePlace (now block) r × (n ≤ 32) ⌝ }
+    requires { ⌜ RulePlace (now block) r × (n ≤ 32) ⌝ }
     ensures { λ x. ⌜ x ≡ validRule (now (block .entry)) n (r .number) ⌝ }
 {
     if !words::is_within(words::kind_of(block, r), 1, 2) {
@@ -119,8 +119,7 @@ fn valid_rule(block: &[i64], r: Place, n: usize) -> bool
 }
 
 fn valid_rooms(block: &[i64], r: Place) -> bool
-    requires { ⌜ Head (now block) × RulePlace (now block) r
-        × Count (kind (now block) (r .number)) × Count (dimSet (now block) (r .number)) ⌝ }
+    requires { ⌜ SetRule (now block) r ⌝ }
     ensures { λ x. ⌜ x ≡ allBelow (dims (now (block .entry))) (validEnds (now (block .entry)) (r .number)) ⌝ }
 {
     let k = words::dims_of(block);
@@ -136,16 +135,14 @@ fn valid_rooms(block: &[i64], r: Place) -> bool
 
 // Whether rule r has a room in dimension d.
 fn has_room(block: &[i64], r: Place, d: usize) -> bool
-    requires { ⌜ Head (now block) × RulePlace (now block) r
-        × Count (kind (now block) (r .number)) × Count (dimSet (now block) (r .number)) × (d < dims (now block)) ⌝ }
+    requires { ⌜ SetRule (now block) r × (d < dims (now block)) ⌝ }
     ensures { λ x. ⌜ x ≡ (isContainment (now (block .entry)) (r .number) && namesDim (now (block .entry)) (r .number) d) ⌝ }
 {
     words::is_containment(block, r) && words::names_dim(block, r, d)
 }
 
 fn valid_ends(block: &[i64], r: Place, d: usize) -> bool
-    requires { ⌜ Head (now block) × RulePlace (now block) r
-        × Count (kind (now block) (r .number)) × Count (dimSet (now block) (r .number)) × (d < dims (now block)) ⌝ }
+    requires { ⌜ SetRule (now block) r × (d < dims (now block)) ⌝ }
     ensures { λ x. ⌜ x ≡ validEnds (now (block .entry)) (r .number) d ⌝ }
 {
     if has_room(block, r, d) {

@@ -23,7 +23,7 @@ pub fn valid_range(a: i64, b: i64) -> bool
     a <= b
 }
 
-// A set of some of the numbers 1 to n.
+// Whether the word is a set of some of the numbers 1 to n.
 pub fn valid_set(set: i64, n: usize) -> bool
     requires { ⌜ n ≤ 32 ⌝ }
     ensures { λ r. ⌜ r ≡ within (pos 1) (pos (2 ^ n - 1)) set ⌝ }
@@ -31,7 +31,7 @@ pub fn valid_set(set: i64, n: usize) -> bool
     words::is_within(set, 1, full_set(n))
 }
 
-// All of them.
+// The set of all the numbers 1 to n.
 fn full_set(n: usize) -> i64
     requires { ⌜ n ≤ 32 ⌝ }
     ensures { λ r. ⌜ r ≡ pos (2 ^ n - 1) ⌝ }

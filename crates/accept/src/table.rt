@@ -1,14 +1,13 @@
 // Checks 5, 8 and 12: the table. Each function leans on the checks before it, as document 01 orders them.
 ghost use mathlib.Core.Path.{_≡_};
 ghost use mathlib.Core.Bool.{false};
-ghost use Prim.Native.Nat.{_<_, _≤_};
-ghost use Rattle.integers.specs.Below.{allBelow, allUpTo};
+ghost use Rattle.integers.specs.Below.{allBelow, allUpTo, UpTo};
 ghost use Rattle.sheet.specs.Layout.{axes, shapeSet, validRow};
 ghost use Rattle.sheet.specs.Placement.{rowFixed};
 ghost use Rattle.sheet.specs.Refusal.{badBox, badTableLength, badRow, notFixed};
 ghost use Rattle.sheet.specs.Accepted.{Count, Head, Rows, Table};
 ghost use Rattle.words.specs.Places.{RowPlace};
-ghost use Rattle.accept.specs.Parts.{validRowRange, fixedRange, shapeBoxed, Flags};
+ghost use Rattle.accept.specs.Parts.{validRowRange, fixedRange, shapeBoxed, Flags, SetRow};
 use super::range;
 use words::Place;
 
@@ -61,8 +60,7 @@ fn boxed_shapes(block: &[i64]) -> [bool; 33]
 }
 
 fn valid_row(block: &[i64], table: &[i64], i: Place, flags: [bool; 33]) -> bool
-    requires { ⌜ Head (now block) × Rows (now block) (now table) × RowPlace (now block) (now table) i
-        × Flags (now block) flags ⌝ }
+    requires { ⌜ RowPlace (now block) (now table) i × Flags (now block) flags ⌝ }
     ensures { λ r. ⌜ r ≡ validRow (now (block .entry)) (now (table .entry)) (i .number) ⌝ }
 {
     if !range::valid_set(words::shape_set_of(block, table, i), 32) {
@@ -72,8 +70,7 @@ fn valid_row(block: &[i64], table: &[i64], i: Place, flags: [bool; 33]) -> bool
 }
 
 fn shapes_boxed(block: &[i64], table: &[i64], i: Place, flags: [bool; 33]) -> bool
-    requires { ⌜ Head (now block) × Rows (now block) (now table) × RowPlace (now block) (now table) i
-        × Count (shapeSet (now block) (now table) (i .number)) × Flags (now block) flags ⌝ }
+    requires { ⌜ SetRow (now block) (now table) i flags ⌝ }
     ensures { λ r. ⌜ r ≡ allUpTo 32 (shapeBoxed (now (block .entry)) (now (table .entry)) (i .number)) ⌝ }
 {
     let set = words::shapes_of(block, table, i);
@@ -91,15 +88,14 @@ fn shapes_boxed(block: &[i64], table: &[i64], i: Place, flags: [bool; 33]) -> bo
 }
 
 fn shape_boxed(block: &[i64], table: &[i64], i: Place, flags: [bool; 33], s: usize) -> bool
-    requires { ⌜ Head (now block) × Rows (now block) (now table) × RowPlace (now block) (now table) i
-        × Count (shapeSet (now block) (now table) (i .number)) × Flags (now block) flags × (1 ≤ s) × (s ≤ 32) ⌝ }
+    requires { ⌜ SetRow (now block) (now table) i flags × UpTo 32 s ⌝ }
     ensures { λ r. ⌜ r ≡ shapeBoxed (now (block .entry)) (now (table .entry)) (i .number) s ⌝ }
 {
     !words::has_shape(block, table, i, s) || flags[s]
 }
 
 fn valid_ranges(block: &[i64], table: &[i64], i: Place) -> bool
-    requires { ⌜ Head (now block) × Rows (now block) (now table) × RowPlace (now block) (now table) i ⌝ }
+    requires { ⌜ RowPlace (now block) (now table) i ⌝ }
     ensures { λ r. ⌜ r ≡ allBelow (axes (now (block .entry)))
         (validRowRange (now (block .entry)) (now (table .entry)) (i .number)) ⌝ }
 {
@@ -135,15 +131,14 @@ pub fn not_fixed(block: &[i64], table: &[i64]) -> bool
 }
 
 fn row_fixed(block: &[i64], table: &[i64], i: Place) -> bool
-    requires { ⌜ Head (now block) × Rows (now block) (now table) × RowPlace (now block) (now table) i
-        × Count (shapeSet (now block) (now table) (i .number)) ⌝ }
+    requires { ⌜ RowPlace (now block) (now table) i × Count (shapeSet (now block) (now table) (i .number)) ⌝ }
     ensures { λ r. ⌜ r ≡ rowFixed (now (block .entry)) (now (table .entry)) (i .number) ⌝ }
 {
     u32::count_ones(words::shapes_of(block, table, i)) == 1 && ranges_fixed(block, table, i)
 }
 
 fn ranges_fixed(block: &[i64], table: &[i64], i: Place) -> bool
-    requires { ⌜ Head (now block) × Rows (now block) (now table) × RowPlace (now block) (now table) i ⌝ }
+    requires { ⌜ RowPlace (now block) (now table) i ⌝ }
     ensures { λ r. ⌜ r ≡ allBelow (axes (now (block .entry)))
         (fixedRange (now (block .entry)) (now (table .entry)) (i .number)) ⌝ }
 {

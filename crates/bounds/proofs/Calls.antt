@@ -1,4 +1,4 @@
--- A call that is given a row, a shape and a dimension: what its checks leave (`Asked`), and its answers by case. Assumes nothing.
+-- A call that is given a row, a shape and a dimension: what its checks leave (`DimAsked`), and its answers by case. Assumes nothing.
 use mathlib.Core.Path.{_≡_, refl}
 use mathlib.Core.List.{List}
 use mathlib.Core.Option.{Option}

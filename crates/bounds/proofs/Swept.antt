@@ -20,7 +20,7 @@ use Rattle.sweep.specs.Point.{InBox, Near, turn, turned, turnedEnd}
 use Rattle.sweep.specs.Rotation.{rotation}
 use Rattle.sweep.specs.declared.Sweep.{Sweep}
 use Rattle.sweep.specs.Moves.{begun, jumpedPast, advance}
-use Rattle.sweep.specs.Theorem.{Step, Reached, start, onward, pointsAfter, SweepTheorem}
+use Rattle.sweep.specs.Theorem.{Step, Visited, start, onward, pointsAfter, SweepTheorem}
 use Rattle.sweep.proofs.Interface.{rotation-range, rotation-first, sweep-theorem, least-turned, candidate-near}
 use Rattle.sweep.proofs.Mirror.{TurnedBox, near-start, near-end, box-in, box-out, box-filled, turned-turned, reverses-turn}
 use Rattle.sweep.proofs.Points.{near-of}
@@ -43,7 +43,7 @@ turn-ahead false y z h = h
 -- stands for the point turned flip q
 abbrev pub Swept : List ℤ → List ℤ → ℕ → ℕ → ℕ → Bool → List ℤ → List ℤ → Sweep → Type 0
 Swept block t i s d flip first end w =
-    Reached (axes block) (rotation (axes block) d) first end (λ q. forbidden block t i s (turned flip q) ≡ true) w
+    Visited (axes block) (rotation (axes block) d) first end (λ q. forbidden block t i s (turned flip q) ≡ true) w
 
 -- how many points come after its candidate
 abbrev pub pointsLeft : List ℤ → ℕ → List ℤ → List ℤ → Sweep → ℕ

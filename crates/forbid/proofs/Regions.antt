@@ -12,12 +12,12 @@ use Rattle.points.specs.declared.Area.{Area}
 use Rattle.points.specs.Area.{coordinates, inArea, InField, Cuts, fieldArea}
 use Rattle.points.proofs.Areas.{in-field, small-field}
 use Rattle.forbid.specs.declared.Region.{Region}
-use Rattle.forbid.specs.Region.{noRegion, Forbids}
+use Rattle.forbid.specs.Region.{noRegion, IsRegion}
 
 module _ {k : ℕ} {p : List ℤ} where
   -- ---- a hit
   pub cut-region : {F : List ℤ → Bool} {a : Area} → k ≤ coordinates → InField k p → F p ≡ true → Cuts k fieldArea a F
-      → Forbids k F p (record { hit = true; area = a })
+      → IsRegion k F p (record { hit = true; area = a })
   cut-region h f e c = record {
     hit = sym e;
     around = λ t. c .is p ∙ true-and (in-field h f) e;
@@ -27,24 +27,24 @@ module _ {k : ℕ} {p : List ℤ} where
 
   module _ {x : Region} where
     -- ---- a miss
-    pub missed : {F : List ℤ → Bool} → F p ≡ false → x ≡ noRegion → Forbids k F p x
+    pub missed : {F : List ℤ → Bool} → F p ≡ false → x ≡ noRegion → IsRegion k F p x
     unfolding noRegion
-    missed {F} e q = subst (λ (y : Region). Forbids k F p y) (sym q)
+    missed {F} e q = subst (λ (y : Region). IsRegion k F p y) (sym q)
         (record { hit = sym e; around = λ t. clash t refl; only = λ t. clash t refl; small = small-field })
 
-    pub miss : {F : List ℤ → Bool} → Forbids k F p x → x .hit ≡ false → F p ≡ false
+    pub miss : {F : List ℤ → Bool} → IsRegion k F p x → x .hit ≡ false → F p ≡ false
     miss f h = sym (f .hit) ∙ h
 
     -- ---- tests that are built of others
-    pub forbids-same : {F G : List ℤ → Bool} → ((q : List ℤ) → F q ≡ G q) → Forbids k F p x → Forbids k G p x
+    pub forbids-same : {F G : List ℤ → Bool} → ((q : List ℤ) → F q ≡ G q) → IsRegion k F p x → IsRegion k G p x
     forbids-same e f = record { hit = f .hit ∙ e p; around = f .around; only = λ t q h. sym (e q) ∙ f .only t q h; small = f .small }
 
-    pub forbids-and : {F : List ℤ → Bool} {a : Bool} → a ≡ true → Forbids k F p x → Forbids k (λ q. a && F q) p x
+    pub forbids-and : {F : List ℤ → Bool} {a : Bool} → a ≡ true → IsRegion k F p x → IsRegion k (λ q. a && F q) p x
     forbids-and {F} e f = forbids-same (λ q. ap (λ (b : Bool). b && F q) (sym e)) f
 
     -- a hit is one of every test that F implies
     pub forbids-by : {F G : List ℤ → Bool} → ((q : List ℤ) → F q ≡ true → G q ≡ true) → x .hit ≡ true
-        → Forbids k F p x → Forbids k G p x
+        → IsRegion k F p x → IsRegion k G p x
     forbids-by e t f = record {
       hit = t ∙ sym (e p (sym (f .hit) ∙ t));
       around = f .around;
@@ -53,7 +53,7 @@ module _ {k : ℕ} {p : List ℤ} where
     }
 
     pub forbids-any : {n m : ℕ} (F : ℕ → List ℤ → Bool) → m < n → x .hit ≡ true
-        → Forbids k (F m) p x → Forbids k (λ q. anyBelow n (λ j. F j q)) p x
+        → IsRegion k (F m) p x → IsRegion k (λ q. anyBelow n (λ j. F j q)) p x
     forbids-any {m} F l t f = forbids-by (λ q h. any-true (λ j. F j q) m l h) t f
 
 -- ---- a loop, after one more turn that missed

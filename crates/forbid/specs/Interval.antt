@@ -13,7 +13,7 @@ module _ (own other : Extent) where
   forbidLast low = low +ℤ other .end -ℤ own .start -ℤ pos 1
 
   -- every sum of these fits
-  pub record Near (low high : ℤ) : Type 0 where
+  pub record SumsFit (low high : ℤ) : Type 0 where
     pub own-start : Within far (own .start)
     pub own-end : Within far (own .end)
     pub other-start : Within far (other .start)

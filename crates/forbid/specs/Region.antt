@@ -16,7 +16,7 @@ use Rattle.outline.specs.Outline.{Outline}
 use Rattle.forbid.specs.declared.Region.{Region}
 
 -- the region is hit exactly when p is F, and then its area holds p and only points that are F
-pub record Forbids (k : ℕ) (F : List ℤ → Bool) (p : List ℤ) (x : Region) : Type 0 where
+pub record IsRegion (k : ℕ) (F : List ℤ → Bool) (p : List ℤ) (x : Region) : Type 0 where
   pub hit : x .hit ≡ F p
   pub around : x .hit ≡ true → inArea k (x .area) p ≡ true
   pub only : x .hit ≡ true → (q : List ℤ) → inArea k (x .area) q ≡ true → F q ≡ true
@@ -27,7 +27,7 @@ noRegion = record { hit = false; area = fieldArea }
 
 module _ (block : List ℤ) (t : List ℤ) where
   -- a shape of an accepted sheet, whose outline is o, and a point near enough
-  pub record Asked (o : List ℤ) (s : ℕ) (p : List ℤ) : Type 0 where
+  pub record AtPoint (o : List ℤ) (s : ℕ) (p : List ℤ) : Type 0 where
     pub accepted : Block block
     pub table : Table block t
     pub outline : Outline block o
@@ -36,7 +36,7 @@ module _ (block : List ℤ) (t : List ℤ) where
 
   -- the same, and rule r and another row
   pub record Versus (o : List ℤ) (r : Place) (s : ℕ) (j : Place) (p : List ℤ) : Type 0 where
-    pub asked : Asked o s p
+    pub at-point : AtPoint o s p
     pub rule : RulePlace block r
     pub row : RowPlace block t j
 

@@ -2,7 +2,7 @@
 ghost use mathlib.Core.Path.{_≡_};
 ghost use Rattle.integers.specs.Integer.{Within};
 ghost use Rattle.points.specs.Area.{reach};
-ghost use Rattle.forbid.specs.Interval.{forbidFirst, forbidLast, Near};
+ghost use Rattle.forbid.specs.Interval.{forbidFirst, forbidLast, SumsFit};
 use outline::solid::Extent;
 
 // The numbers from a first to a last one; none where the first exceeds the last.
@@ -14,7 +14,7 @@ pub struct Interval {
 // The origins at which the own extent overlaps the other one wherever the other's row stands from low to high: it ends past the other's start
 // where that row is highest, and starts before the other's end where it is lowest.
 pub(crate) fn overlapping(own: Extent, other: Extent, low: i64, high: i64) -> Interval
-    requires { ⌜ Near own other low high ⌝ }
+    requires { ⌜ SumsFit own other low high ⌝ }
     ensures { λ x. ⌜ (x .from ≡ forbidFirst own other high) × (x .to ≡ forbidLast own other low)
         × Within reach (x .from) × Within reach (x .to) ⌝ }
 {

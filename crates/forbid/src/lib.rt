@@ -6,12 +6,13 @@ pub mod row;
 
 ghost use mathlib.Core.Path.{_≡_};
 ghost use mathlib.Core.Bool.{_&&_};
-ghost use Prim.Native.Nat.{_<_, _≤_};
+ghost use Prim.Native.Nat.{_<_};
+ghost use Rattle.integers.specs.Below.{UpTo};
 ghost use Rattle.sheet.specs.Layout.{axes, rules, isNonOverlap, namesRow};
 ghost use Rattle.sheet.specs.Allowed.{forbidden};
 ghost use Rattle.sheet.specs.Accepted.{Block};
 ghost use Rattle.words.specs.Places.{RulePlace, RowPlace};
-ghost use Rattle.forbid.specs.Region.{Forbids, noRegion, Asked, rowsForbid, ruleForbids};
+ghost use Rattle.forbid.specs.Region.{IsRegion, noRegion, AtPoint, rowsForbid, ruleForbids};
 use outline::OUTLINE;
 use points::Area;
 use points::COORDINATES;
@@ -44,8 +45,8 @@ fn rows_region(
     s: usize,
     p: [i64; COORDINATES],
 ) -> Region
-    requires { ⌜ Asked (now block) (now table) (now outline) s p × RulePlace (now block) r ⌝ }
-    ensures { λ x. ⌜ Forbids (axes (now (block .entry)))
+    requires { ⌜ AtPoint (now block) (now table) (now outline) s p × RulePlace (now block) r ⌝ }
+    ensures { λ x. ⌜ IsRegion (axes (now (block .entry)))
         (rowsForbid (now (block .entry)) (now (table .entry)) (r .number) i s) p x ⌝ }
 {
     let n = words::rows_of(block, table);
@@ -64,7 +65,7 @@ fn rows_region(
 
 // Whether rule r keeps row i apart from other rows.
 pub fn is_non_overlap_of(block: &[i64], r: Place, i: usize) -> bool
-    requires { ⌜ Block (now block) × RulePlace (now block) r × (1 ≤ i) × (i ≤ 32) ⌝ }
+    requires { ⌜ Block (now block) × RulePlace (now block) r × UpTo 32 i ⌝ }
     ensures { λ x. ⌜ x ≡ (isNonOverlap (now (block .entry)) (r .number)
         && namesRow (now (block .entry)) (r .number) i) ⌝ }
 {
@@ -84,8 +85,8 @@ fn rule_region(
     r: usize,
     p: [i64; COORDINATES],
 ) -> Region
-    requires { ⌜ Asked (now block) (now table) (now outline) s p × RowPlace (now block) (now table) i × (r < rules (now block)) ⌝ }
-    ensures { λ x. ⌜ Forbids (axes (now (block .entry)))
+    requires { ⌜ AtPoint (now block) (now table) (now outline) s p × RowPlace (now block) (now table) i × (r < rules (now block)) ⌝ }
+    ensures { λ x. ⌜ IsRegion (axes (now (block .entry)))
         (ruleForbids (now (block .entry)) (now (table .entry)) (i .number) s r) p x ⌝ }
 {
     let rule = words::rule_place(block, r);
@@ -105,8 +106,8 @@ pub fn forbidding_region(
     s: usize,
     p: [i64; COORDINATES],
 ) -> Region
-    requires { ⌜ Asked (now block) (now table) (now outline) s p × RowPlace (now block) (now table) i ⌝ }
-    ensures { λ x. ⌜ Forbids (axes (now (block .entry)))
+    requires { ⌜ AtPoint (now block) (now table) (now outline) s p × RowPlace (now block) (now table) i ⌝ }
+    ensures { λ x. ⌜ IsRegion (axes (now (block .entry)))
         (forbidden (now (block .entry)) (now (table .entry)) (i .number) s) p x ⌝ }
 {
     let n = words::rules_of(block);

@@ -5,7 +5,7 @@ ghost use Rattle.sheet.specs.Layout.{axes};
 ghost use Rattle.sheet.specs.Allowed.{shapesForbid, setForbids, rowForbids};
 ghost use Rattle.sheet.specs.Accepted.{Boxed, Block, Table};
 ghost use Rattle.words.specs.Places.{RowPlace};
-ghost use Rattle.forbid.specs.Region.{Forbids, Asked, Versus, OnlyShape};
+ghost use Rattle.forbid.specs.Region.{IsRegion, AtPoint, Versus, OnlyShape};
 use crate::Region;
 use crate::pair;
 use crate::pair::Pair;
@@ -28,7 +28,7 @@ fn shapes_region(
     p: [i64; COORDINATES],
 ) -> Region
     requires { ⌜ Versus (now block) (now table) (now outline) r s j p × Boxed (now block) t ⌝ }
-    ensures { λ x. ⌜ ((i : ℕ) → Forbids (axes (now (block .entry)))
+    ensures { λ x. ⌜ ((i : ℕ) → IsRegion (axes (now (block .entry)))
         (λ q. shapesForbid (now (block .entry)) (now (table .entry)) (r .number) q i s (j .number) t) p x) ⌝ }
 {
     let n = words::boxes_of(block);
@@ -89,7 +89,7 @@ pub fn set_region(
     p: [i64; COORDINATES],
 ) -> Region
     requires { ⌜ Versus (now block) (now table) (now outline) r s j p ⌝ }
-    ensures { λ x. ⌜ ((i : ℕ) → Forbids (axes (now (block .entry)))
+    ensures { λ x. ⌜ ((i : ℕ) → IsRegion (axes (now (block .entry)))
         (λ q. setForbids (now (block .entry)) (now (table .entry)) (r .number) q i s (j .number)) p x) ⌝ }
 {
     let t = only_shape(block, table, j);
@@ -111,7 +111,7 @@ pub(crate) fn row_region(
     p: [i64; COORDINATES],
 ) -> Region
     requires { ⌜ Versus (now block) (now table) (now outline) r s j p ⌝ }
-    ensures { λ x. ⌜ Forbids (axes (now (block .entry)))
+    ensures { λ x. ⌜ IsRegion (axes (now (block .entry)))
         (λ q. rowForbids (now (block .entry)) (now (table .entry)) (r .number) q i s (j .number)) p x ⌝ }
 {
     let other = j.number;

@@ -13,6 +13,7 @@ use lib.Seq.{sets, length-take-le}
 use Rattle.integers.proofs.Below.{below-or}
 use Rattle.stores.proofs.Stores.{sets-before}
 use Rattle.stores.proofs.Puts.{put-more}
+use Rattle.sheet.specs.Layout.{blockMost, tableMost}
 use Rattle.sheet.specs.Text.{split, Sheet, ended, records}
 use Rattle.line.specs.Parts.{until, partsFrom}
 use Rattle.line.specs.Answers.{zeros, placed, linesFrom, LinesRead}
@@ -92,7 +93,7 @@ module _ (s : List ℕ) (at k : ℕ) {block₀ block₁ block₂ table₀ table�
   block-length = let put = put-more (bs .put) (rs .put) in omega (arith, put .past)
 
   -- from zeros, with the counts put last, that is the answer for this text
-  pub parsed : {block : List ℤ} → block₀ ≡ zeros 1507 → table₀ ≡ zeros 288 → o .next ≡ length s → block ≡ sets block₂ 0 counts
+  pub parsed : {block : List ℤ} → block₀ ≡ zeros blockMost → table₀ ≡ zeros tableMost → o .next ≡ length s → block ≡ sets block₂ 0 counts
       → record { formed = true; block = block; «block_len» = r .end; table = table₁; «table_len» = o .end } ≡ parsedOf (records k (partsFrom 10 s at))
   unfolding parsedOf placed
   parsed x y h e =

@@ -13,9 +13,10 @@ use lib.Signed.{ltZ}
 use lib.ListN.{length, getD, take, drop}
 use lib.Seq.{getD-take}
 use Rattle.integers.proofs.Booleans.{decide, and-true, clash}
+use Rattle.sheet.specs.Layout.{recordMost}
 use Rattle.sheet.specs.Text.{line, records, afterK, readLines, readText}
 use Rattle.line.specs.Parts.{until, partsFrom}
-use Rattle.line.specs.Answers.{lineOf}
+use Rattle.line.specs.Answers.{lineOf, textMost}
 use Rattle.form.specs.Parsed.{headOf, kOf}
 use Rattle.line.specs.declared.Line.{Line}
 use Rattle.line.proofs.Parts.{parts-none, parts-all, parts-next, part-ends}
@@ -72,9 +73,9 @@ after-in (negsuc n) ls h = absurd (h refl)
 
 -- ---- the whole text
 
-pub text-long : (s : List ℕ) → 65536 < length s → readText s ≡ none
+pub text-long : (s : List ℕ) → textMost < length s → readText s ≡ none
 unfolding readText
-text-long s h = rw (lt-leb (length s) 65536 h, readText)
+text-long s h = rw (lt-leb (length s) textMost h, readText)
 
 read-bad : (l : List ℕ) (ls : List (List ℕ)) → line 75 1 l ≡ none → readLines (l ∷ ls) ≡ none
 unfolding readLines
@@ -92,12 +93,12 @@ one-word (w ∷ []) z h e = rw e
 one-word (w ∷ (v ∷ vs)) z h e = absurd (omega arith)
 
 -- the first line ends at e
-module _ (s : List ℕ) (e : ℕ) (h : length s ≤ 65536) (k : e ≡ 0 + length (until 10 s)) where
+module _ (s : List ℕ) (e : ℕ) (h : length s ≤ textMost) (k : e ≡ 0 + length (until 10 s)) where
   first : readText s ≡ readLines (take e s ∷ partsFrom 10 s (e + 1))
   unfolding readText
   first =
       let q : e - 0 ≡ e = omega arith in
-      rw (le-leb (length s) 65536 h, readText)
+      rw (le-leb (length s) textMost h, readText)
       (ap readLines
       (sym (parts-all 10 s) ∙ parts-next 10 s (omega arith) k ∙ ap (λ (n : ℕ). take n s ∷ partsFrom 10 s (e + 1)) q))
 
@@ -115,7 +116,7 @@ module _ (s : List ℕ) (e : ℕ) (h : length s ≤ 65536) (k : e ≡ 0 + length
         let w = words-of _ l a d in
         let size = line-length 75 1 _ (w .words) (w .are) in
         let same = sym (getD-take 1 (l .words) 0 (pos 0) (omega arith))
-        ∙ ap (λ (x : List ℤ). getD x 0 (pos 0)) (ap (take 1) (w .stored) ∙ take-placed 11 (w .words) (sym size) (omega arith)) in
+        ∙ ap (λ (x : List ℤ). getD x 0 (pos 0)) (ap (take 1) (w .stored) ∙ take-placed recordMost (w .words) (sym size) (omega arith)) in
         let inside : e + 1 ≤ length s = (let i = part-ends 10 s {p = 0} (omega arith) k in omega (arith, g)) in
         let more = ap length (parts-next 10 s {p = e + 1} {q = e + 1 + length (until 10 (drop (e + 1) s))} inside refl) in
         first ∙ read-good _ _ _ (omega arith) (w .are ∙ ap some (one-word _ _ size (sym same)))

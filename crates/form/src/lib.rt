@@ -5,39 +5,44 @@ ghost use mathlib.Core.Option.{none, some};
 ghost use mathlib.Core.List.{[], _∷_};
 ghost use Prim.Native.Nat.{_+_, _≤_};
 ghost use lib.IntN.{pos};
-ghost use lib.ListN.{length};
 ghost use lib.Seq.{sets};
+ghost use Rattle.sheet.specs.Layout.{blockMost, tableMost};
 ghost use Rattle.sheet.specs.Text.{records, readText};
 ghost use Rattle.line.specs.Parts.{partsFrom};
-ghost use Rattle.line.specs.Answers.{zeros};
-ghost use Rattle.form.specs.Parsed.{parsedOf, headOf, kOf};
+ghost use Rattle.line.specs.Answers.{zeros, textMost};
+ghost use Rattle.form.specs.Parsed.{parsedOf, headOf, kOf, RecordsAhead};
+use line::TEXT_BYTES;
 use line::find;
 use line::lines_into;
 use line::read_line;
+use sheet::BLOCK_WORDS;
+use sheet::TABLE_WORDS;
 use stores::put_word;
 
-// Block and table as far as there is room, zeros past the words, and how many words the text has for each.
+// Whether a text is in the form; its block and table as far as there is room, with zeros past the words; how many words it has for each.
 pub struct Parsed {
     pub formed: bool,
-    pub block: [i64; 1507],
+    pub block: [i64; BLOCK_WORDS],
     pub block_len: usize,
-    pub table: [i64; 288],
+    pub table: [i64; TABLE_WORDS],
     pub table_len: usize,
 }
 
-pub fn block_zeros() -> [i64; 1507]
-    ensures { λ r. ⌜ r ≡ zeros 1507 ⌝ }
+// Zeros for the largest block.
+pub fn block_zeros() -> [i64; BLOCK_WORDS]
+    ensures { λ r. ⌜ r ≡ zeros blockMost ⌝ }
 {
-    [0i64; 1507]
+    [0i64; BLOCK_WORDS]
 }
 
-pub fn table_zeros() -> [i64; 288]
-    ensures { λ r. ⌜ r ≡ zeros 288 ⌝ }
+// Zeros for the largest table.
+pub fn table_zeros() -> [i64; TABLE_WORDS]
+    ensures { λ r. ⌜ r ≡ zeros tableMost ⌝ }
 {
-    [0i64; 288]
+    [0i64; TABLE_WORDS]
 }
 
-// A text that is not in the form.
+// What is handed back of a text that is not in the form.
 fn unformed() -> Parsed
     ensures { λ r. ⌜ r ≡ parsedOf none ⌝ }
 {
@@ -52,7 +57,7 @@ fn unformed() -> Parsed
     }
 }
 
-// A text whose first line has a k outside 1 to 4.
+// What is handed back of a text whose first line has a k outside 1 to 4.
 fn headed(k: i64) -> Parsed
     ensures { λ r. ⌜ r ≡ parsedOf (some (headOf k)) ⌝ }
 {
@@ -83,7 +88,7 @@ fn k_of(w: i64) -> usize
 
 // k, B and R before the records.
 fn put_counts(out: &mut [i64], k: usize, boxes: usize, rules: usize)
-    requires { ⌜ (k ≤ 4) × (boxes ≤ 65537) × (rules ≤ 65537) ⌝ }
+    requires { ⌜ (k ≤ 4) × (boxes ≤ textMost + 1) × (rules ≤ textMost + 1) ⌝ }
     ensures { λ _. ⌜ now (out .exit) ≡ sets (now (out .entry)) 0 (pos k ∷ pos boxes ∷ pos rules ∷ []) ⌝ }
 {
     put_word(out, 0, k as i64);
@@ -93,7 +98,7 @@ fn put_counts(out: &mut [i64], k: usize, boxes: usize, rules: usize)
 
 // The lines after the first: B, R and O lines in that order, and nothing else.
 fn read_records(s: &[u8], at: usize, k: usize) -> Parsed
-    requires { ⌜ (1 ≤ at) × (at ≤ length (now s) + 1) × (length (now s) ≤ 65536) × (1 ≤ k) × (k ≤ 4) ⌝ }
+    requires { ⌜ RecordsAhead (now s) at k ⌝ }
     ensures { λ r. ⌜ r ≡ parsedOf (records k (partsFrom 10 (now (s .entry)) at)) ⌝ }
 {
     let mut b = block_zeros();
@@ -118,7 +123,7 @@ fn read_records(s: &[u8], at: usize, k: usize) -> Parsed
 pub fn parse_text(text: &[u8]) -> Parsed
     ensures { λ r. ⌜ r ≡ parsedOf (readText (now (text .entry))) ⌝ }
 {
-    if text.len() > 65536 {
+    if text.len() > TEXT_BYTES {
         return unformed();
     }
     let e = find(text, 0, b'\n');

@@ -10,7 +10,7 @@ use native.Mathlib.Numerals.{add-one}
 use native.Mathlib.Omega.{arith}
 use lib.Dec.{eqb, ltb}
 use borrow.Author.Tests.{ltb-true, ltb-false, eqb-true, eqb-false}
-use Rattle.integers.specs.Below.{allBelow, anyBelow, allUpTo, anyUpTo, sumBelow, leastBelow, greatestBelow}
+use Rattle.integers.specs.Below.{allBelow, anyBelow, allUpTo, anyUpTo, UpTo, sumBelow, leastBelow, greatestBelow}
 use Rattle.integers.proofs.Booleans.{clash, decide, fails, and-true, true-and, or-true, or-left, or-right, nor}
 
 -- ---- numbers, one of two cases
@@ -106,6 +106,10 @@ all-not zero f = refl
 all-not (suc n) f = ap (λ (b : Bool). b && not (f n)) (all-not n f) ∙ nor (anyBelow n f) (f n)
 
 -- ---- the same for the numbers 1 to n
+-- where numbers from 0 are counted
+pub up-next : {n m : ℕ} → m < n → UpTo n (m + 1)
+up-next l = record { from = omega arith; upto = omega arith }
+
 pub upto-at : {n : ℕ} (f : ℕ → Bool) → allUpTo n f ≡ true → (i : ℕ) → 1 ≤ i → i ≤ n → f i ≡ true
 upto-at f e zero h k = absurd (not-suc-le-zero h)
 upto-at f e (suc m) h k = all-at (λ d. f (suc d)) e m k

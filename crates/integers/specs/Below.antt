@@ -3,7 +3,7 @@
 -- Assumes nothing.
 use mathlib.Core.Bool.{Bool, true, false, cond, _&&_, _||_}
 use mathlib.Core.Option.{Option, none, some}
-use Prim.Native.Nat.{ℕ, zero, suc, _+_}
+use Prim.Native.Nat.{ℕ, zero, suc, _+_, _≤_}
 
 -- a implies b
 infixr 25 _⇒_
@@ -26,6 +26,11 @@ allUpTo n f = allBelow n (λ m. f (suc m))
 
 abbrev pub anyUpTo : ℕ → (ℕ → Bool) → Bool
 anyUpTo n f = anyBelow n (λ m. f (suc m))
+
+-- i is one of these
+pub record UpTo (n i : ℕ) : Type 0 where
+  pub from : 1 ≤ i
+  pub upto : i ≤ n
 
 -- f 0 + .. + f (n − 1)
 unfoldable pub sumBelow : ℕ → (ℕ → ℕ) → ℕ

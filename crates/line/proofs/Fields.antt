@@ -13,6 +13,7 @@ use lib.IntN.{ℤ}
 use lib.ListN.{length, getD, take, drop, set}
 use lib.Seq.{sets, length-take-le, getD-take}
 use Rattle.integers.proofs.Booleans.{both-ways, and-true}
+use Rattle.sheet.specs.Layout.{recordMost}
 use Rattle.sheet.specs.Text.{split, number, numbers, cons, fieldsOf, line}
 use Rattle.line.specs.Parts.{until, partsFrom, numbersIn}
 use Rattle.line.specs.Answers.{zeros, placed, lineOf}
@@ -66,7 +67,7 @@ onto-bad : (w : List ℤ) (i : ℕ) (o : Option (List ℤ)) → lineOf none ≡ 
 unfolding lineOnto cons
 onto-bad w i o = refl
 
-onto-first : (o : Option (List ℤ)) → lineOnto (zeros 11) 0 o ≡ lineOf o
+onto-first : (o : Option (List ℤ)) → lineOnto (zeros recordMost) 0 o ≡ lineOf o
 unfolding lineOnto lineOf placed
 onto-first none = refl
 onto-first (some ws) = refl
@@ -123,7 +124,7 @@ module _ (s : List ℕ) (n p : ℕ) (w : List ℤ) (i : ℕ) where
       fields-more v f =
           onto-more w i v _ ∙ sym (next ∙ ap (λ (o : Option ℤ). lineOnto w i (cons o (numbersIn (n - (i + 1)) (partsFrom 44 s (e + 1))))) f)
 
-pub walked-first : (s : List ℕ) (n p : ℕ) → walked s n p (zeros 11) 0 ≡ lineOf (numbersIn n (partsFrom 44 s p))
+pub walked-first : (s : List ℕ) (n p : ℕ) → walked s n p (zeros recordMost) 0 ≡ lineOf (numbersIn n (partsFrom 44 s p))
 walked-first s n p = let q : n - 0 ≡ n = omega arith in rw q (onto-first (numbersIn n (partsFrom 44 s p)))
 
 -- ---- the letter

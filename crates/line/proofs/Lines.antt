@@ -10,9 +10,10 @@ use lib.IntN.{ℤ}
 use lib.ListN.{length, take, drop, length-append}
 use Rattle.stores.specs.Put.{Put}
 use Rattle.stores.proofs.Puts.{Left, left-all, left-more, left-done, put-none, put-as}
+use Rattle.sheet.specs.Layout.{recordMost}
 use Rattle.sheet.specs.Text.{line, linesOf, Lines, addLine}
 use Rattle.line.specs.Parts.{until, partsFrom}
-use Rattle.line.specs.Answers.{lineOf, linesFrom, LinesRead}
+use Rattle.line.specs.Answers.{lineOf, linesFrom, LinesAhead, LinesRead}
 use Rattle.line.specs.declared.Line.{Line}
 use Rattle.line.proofs.Parts.{parts-none, parts-next, part-ends}
 use Rattle.line.proofs.Fields.{line-length}
@@ -61,11 +62,17 @@ module _ (s : List ℕ) (at letter n : ℕ) (before : List ℤ) (to : ℕ) where
     pub left : from p .rest ≡ from at .rest
     pub inside : p ≤ length s + 1
     pub few : c ≤ p
-    pub short : t ≤ 11 * p
+    pub short : t ≤ recordMost * p
 
-  pub walk-first : at ≤ length s + 1 → to ≤ 11 * at → Walk before 0 at to
-  walk-first h g =
-      record { counted = zero-add _; put = left-all before to (from at .words); left = refl; inside = h; few = omega arith; short = g }
+  pub walk-first : LinesAhead s at n to → Walk before 0 at to
+  walk-first h = record {
+    counted = zero-add _;
+    put = left-all before to (from at .words);
+    left = refl;
+    inside = h .inside;
+    few = omega arith;
+    short = h .short;
+  }
 
   module _ {out : List ℤ} {c p t : ℕ} (k : Walk out c p t) where
     abbrev Done : Type 0
@@ -94,11 +101,11 @@ module _ (s : List ℕ) (at letter n : ℕ) (before : List ℤ) (to : ℕ) where
       pub walk-stop : r .whole ≡ false → Done
       walk-stop d = stop (ap (linesOf letter n) here ∙ lines-bad letter n _ _ (no-words _ r a d) ∙ ap noLines (sym here))
 
-      module _ (d : r .whole ≡ true) (f : n ≤ 11) where
+      module _ (d : r .whole ≡ true) (f : n ≤ recordMost) where
         stored : take n (r .words) ≡ words-of _ r a d .words
         stored =
             let w = words-of _ r a d in
-            ap (take n) (w .stored) ∙ take-placed 11 (w .words) (sym (line-length letter n _ (w .words) (w .are))) f
+            ap (take n) (w .stored) ∙ take-placed recordMost (w .words) (sym (line-length letter n _ (w .words) (w .are))) f
 
         pub walk-more : {o : List ℤ} {u : ℕ} → Put out t (take n (r .words)) u o → Walk o (c + 1) (e + 1) u
         unfolding addLine

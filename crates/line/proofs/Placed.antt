@@ -9,6 +9,7 @@ use lib.IntN.{ℤ, pos}
 use lib.ListN.{length, take, length-replicate}
 use lib.Seq.{length-sets}
 use Rattle.stores.proofs.Stores.{take-sets}
+use Rattle.sheet.specs.Layout.{recordMost}
 use Rattle.line.specs.Answers.{zeros, placed, lineOf}
 use Rattle.line.specs.declared.Line.{Line}
 
@@ -35,7 +36,7 @@ no-words (some ws) l e h = let q = sym (ap (λ (x : Line). x .whole) e) ∙ h in
 pub record Words (o : Option (List ℤ)) (l : Line) : Type 0 where
   pub words : List ℤ
   pub are : o ≡ some words
-  pub stored : l .words ≡ placed 11 words
+  pub stored : l .words ≡ placed recordMost words
 
 pub words-of : (o : Option (List ℤ)) (l : Line) → l ≡ lineOf o → l .whole ≡ true → Words o l
 unfolding lineOf

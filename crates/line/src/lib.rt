@@ -2,23 +2,27 @@
 // separator and lent as a slice; a line's words are stored only when it is whole.
 ghost use mathlib.Core.Path.{_≡_};
 ghost use mathlib.Core.Option.{none};
-ghost use Prim.Native.Nat.{_+_, _*_, _≤_};
+ghost use Prim.Native.Nat.{_+_};
 ghost use lib.ListN.{length, drop};
 ghost use Rattle.sheet.specs.Text.{line};
 ghost use Rattle.line.specs.Parts.{until, partsFrom, numbersIn};
-ghost use Rattle.line.specs.Answers.{lineOf, LinesRead};
+ghost use Rattle.line.specs.Answers.{lineOf, LinesAhead, LinesRead};
 
 mod number; // number.rt: the number that a field spells
 
 use number::Number;
 use number::read_number;
+use sheet::RECORD_WORDS;
 use stores::put_word;
 use stores::put_words;
 
-// Whether a line has the form, and its words: the longest line has eleven.
+// The most bytes of a text (specs/Answers has it as `textMost`).
+pub const TEXT_BYTES: usize = 65536;
+
+// Whether a line has the form, and its words: zeros past them, and all zeros of a line that has not.
 pub struct Line {
     pub whole: bool,
-    pub words: [i64; 11],
+    pub words: [i64; RECORD_WORDS],
 }
 
 // Lines that were read: how many, where the next one starts, and the place past their words. After a last line that is not closed,
@@ -29,7 +33,7 @@ pub struct Passed {
     pub end: usize,
 }
 
-// Where the first byte `b` from `from` on stands, or the end.
+// Where the first byte `b` from `from` on stands; if there is none, the end, or `from` if that is past the end.
 pub fn find(s: &[u8], from: usize, b: u8) -> usize
     ensures { λ r. ⌜ r ≡ from + length (until b (drop from (now (s .entry)))) ⌝ }
 {
@@ -43,12 +47,13 @@ pub fn find(s: &[u8], from: usize, b: u8) -> usize
     i
 }
 
+// A line that has not the form.
 fn no_line() -> Line
     ensures { λ r. ⌜ r ≡ lineOf none ⌝ }
 {
     Line {
         whole: false,
-        words: [0i64; 11],
+        words: [0i64; RECORD_WORDS],
     }
 }
 
@@ -56,7 +61,7 @@ fn no_line() -> Line
 fn read_fields(s: &[u8], from: usize, n: usize) -> Line
     ensures { λ r. ⌜ r ≡ lineOf (numbersIn n (partsFrom 44 (now (s .entry)) from)) ⌝ }
 {
-    let mut w = [0i64; 11];
+    let mut w = [0i64; RECORD_WORDS];
     let mut p = from;
     let mut i: usize = 0;
     while i < n {
@@ -93,9 +98,9 @@ pub fn read_line(s: &[u8], letter: u8, n: usize) -> Line
     read_fields(s, 2, n)
 }
 
-// The lines of one letter from `at` on; their words are put into `out` from `to` on.
+// The lines of one letter with `n` numbers each, from `at` on; their words are put into `out` from `to` on.
 pub fn lines_into(s: &[u8], at: usize, letter: u8, n: usize, out: &mut [i64], to: usize) -> Passed
-    requires { ⌜ (at ≤ length (now s) + 1) × (length (now s) ≤ 65536) × (n ≤ 11) × (to ≤ 11 * at) ⌝ }
+    requires { ⌜ LinesAhead (now s) at n to ⌝ }
     ensures { λ r. ⌜ LinesRead (now (s .entry)) at letter n (now (out .entry)) to r (now (out .exit)) ⌝ }
 {
     let mut c: usize = 0;

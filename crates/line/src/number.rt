@@ -8,6 +8,7 @@ ghost use lib.ListN.{length};
 ghost use Rattle.sheet.specs.Text.{digitsFrom, positive, signed, number};
 ghost use Rattle.line.specs.Answers.{numberOf};
 
+// A number, or none.
 pub enum Number {
     Found(i64),
     Missing,
@@ -57,6 +58,7 @@ fn read_positive(f: &[u8]) -> Number
     read_digits(&f[1..], (b - b'0') as u64)
 }
 
+// The number that the field `f` spells, if it spells one.
 pub fn read_number(f: &[u8]) -> Number
     ensures { λ r. ⌜ r ≡ numberOf (number (now (f .entry))) ⌝ }
 {

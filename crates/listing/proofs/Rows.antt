@@ -14,7 +14,7 @@ use Rattle.integers.specs.Integer.{nat}
 use Rattle.integers.proofs.Ints.{ints, disjoint}
 use Rattle.integers.proofs.Below.{below-or}
 use Rattle.stores.proofs.Puts.{Left, left-all}
-use Rattle.sheet.specs.Layout.{dims, axes, rowLen, rows}
+use Rattle.sheet.specs.Layout.{tableMost, dims, axes, rowLen, rows}
 use Rattle.sheet.specs.Text.{ascii, shown, commas, rowLines, printedFor}
 
 -- ---- the words of a line
@@ -72,41 +72,41 @@ module _ (t : List ℤ) (start len : ℕ) where
   pub row-length : start + len ≤ length t → length (take len (drop start t)) ≡ len
   row-length h = length-take-le len (drop start t) (rw length-drop (omega arith))
 
--- ---- the length of a row, cut off at 289
+-- ---- the length of a row, cut off at one more than the words of the largest table
 
 module _ (b : List ℤ) where
   abbrev k : ℤ
   k = getD b 0 (pos 0)
 
-  length-is : rowLen (b) ≡ 1 + 2 * nat k
+  length-is : rowLen b ≡ 1 + 2 * nat k
   unfolding rowLen axes dims
   length-is = refl
 
-  pub len-none : length b ≡ 0 → 1 ≡ min (rowLen (b)) 289
+  pub len-none : length b ≡ 0 → 1 ≡ min (rowLen b) (tableMost + 1)
   len-none h = let e : k ≡ pos 0 = List·getD-eq-default b (pos 0) (omega arith) in rw (length-is, e)
 
-  pub len-low : k <ℤ pos 1 → 1 ≡ min (rowLen (b)) 289
+  pub len-low : k <ℤ pos 1 → 1 ≡ min (rowLen b) (tableMost + 1)
   len-low h = rw length-is (let d = disjoint k in omega ints)
 
-  pub len-high : pos 143 <ℤ k → 289 ≡ min (rowLen (b)) 289
+  pub len-high : pos 143 <ℤ k → tableMost + 1 ≡ min (rowLen b) (tableMost + 1)
   len-high h = rw length-is (omega ints)
 
-  pub len-in : {n : ℕ} → k ≡ pos n → n ≤ 143 → 1 + 2 * n ≡ min (rowLen (b)) 289
+  pub len-in : {n : ℕ} → k ≡ pos n → n ≤ 143 → 1 + 2 * n ≡ min (rowLen b) (tableMost + 1)
   len-in e h = rw (length-is, e) (omega arith)
 
-  pub len-some : {len : ℕ} → len ≡ min (rowLen (b)) 289 → 0 < len
+  pub len-some : {len : ℕ} → len ≡ min (rowLen b) (tableMost + 1) → 0 < len
   len-some e = rw (e, length-is) (omega arith)
 
-  -- a row that is longer has no room in 288 words, so there is no row
-  pub settled-is : (t : List ℤ) {len : ℕ} → len ≡ min (rowLen (b)) 289 → length t ≤ 288
-      → (ascii "SETTLED" ++ commas (pos (length t / len) ∷ [])) ++ rowLines len (length t / len) 0 t ≡ printedFor 0 (b) (some t)
+  -- in a table there is no row of more words than the largest table has
+  pub settled-is : (t : List ℤ) {len : ℕ} → len ≡ min (rowLen b) (tableMost + 1) → length t ≤ tableMost
+      → (ascii "SETTLED" ++ commas (pos (length t / len) ∷ [])) ++ rowLines len (length t / len) 0 t ≡ printedFor 0 b (some t)
   unfolding printedFor rows
   settled-is t {len} e h =
       ⊎-elim
-      (λ (l : rowLen (b) < 289). let q : len ≡ rowLen (b) = omega arith in rw q)
-      (λ (l : 289 ≤ rowLen (b)).
-      let long = rowLen (b) in
+      (λ (l : rowLen b < tableMost + 1). let q : len ≡ rowLen b = omega arith in rw q)
+      (λ (l : tableMost + 1 ≤ rowLen b).
+      let long = rowLen b in
       let m : length t / len ≡ 0 = div-eq-of-lt (omega arith) in
       let n : length t / long ≡ 0 = div-eq-of-lt (omega arith) in
       rw (m, n) (ap (λ (x : List ℕ). ascii "SETTLED" ++ commas (pos 0 ∷ []) ++ x) (rows-end len 0 t refl ∙ sym (rows-end long 0 t refl))))
-      (below-or (rowLen (b)) 289)
+      (below-or (rowLen b) (tableMost + 1))

@@ -1,4 +1,4 @@
--- How many bytes a number, a line and a listing take at most: a table of 288 words, any words, takes less than 13,000. Assumes nothing.
+-- How many bytes a number, the words of a line and the lines of a table take at most. Assumes nothing.
 use mathlib.Core.Path.{ap}
 use mathlib.Core.Logic.{⊎-elim}
 use mathlib.Core.List.{List, [], _∷_, _++_}

@@ -3,17 +3,19 @@
 ghost use mathlib.Core.Path.{_≡_};
 ghost use mathlib.Core.List.{[], _∷_, _++_};
 ghost use mathlib.Core.Option.{some};
-ghost use Prim.Native.Nat.{_+_, _*_, _≤_, min};
+ghost use Prim.Native.Nat.{_+_, _≤_, min};
 ghost use lib.IntN.{pos};
 ghost use lib.ListN.{length, take};
 ghost use Rattle.stores.specs.Put.{Put};
-ghost use Rattle.sheet.specs.Layout.{rowLen};
+ghost use Rattle.sheet.specs.Layout.{tableMost, rowLen};
 ghost use Rattle.sheet.specs.Text.{ascii, shown, commas, rowLines, printedFor};
+ghost use Rattle.listing.specs.Rows.{RowsAhead};
 
 mod number; // number.rt: a number in decimal digits
 
 use number::put_natural;
 use number::put_number;
+use sheet::TABLE_WORDS;
 use stores::put_byte;
 use stores::put_bytes;
 
@@ -50,9 +52,9 @@ fn put_row(out: &mut [u8], at: usize, m: usize, words: &[i64]) -> usize
     put_commas(out, p, words)
 }
 
-// `n` rows of `len` words each.
+// The lines of `n` rows of `len` words each.
 fn put_rows(out: &mut [u8], at: usize, len: usize, n: usize, table: &[i64]) -> usize
-    requires { ⌜ (at ≤ 1000) × (n * len ≤ length (now table)) × (length (now table) ≤ 288) × (n ≤ 288) ⌝ }
+    requires { ⌜ RowsAhead at len n (now table) ⌝ }
     ensures { λ r. ⌜ Put (now (out .entry)) at (rowLines len n 0 (now (table .entry))) r (now (out .exit)) ⌝ }
 {
     let mut p = at;
@@ -66,19 +68,19 @@ fn put_rows(out: &mut [u8], at: usize, len: usize, n: usize, table: &[i64]) -> u
     p
 }
 
-// A first line: a word, and a number behind a comma.
-fn put_first(out: &mut [u8], word: &[u8], z: i64) -> usize
-    requires { ⌜ length (now word) ≤ 100 ⌝ }
-    ensures { λ r. ⌜ Put (now (out .entry)) 0 (now (word .entry) ++ commas (z ∷ [])) r (now (out .exit)) ⌝ }
+// A first line: a name, and a number behind a comma.
+fn put_first(out: &mut [u8], name: &[u8], z: i64) -> usize
+    requires { ⌜ length (now name) ≤ 100 ⌝ }
+    ensures { λ r. ⌜ Put (now (out .entry)) 0 (now (name .entry) ++ commas (z ∷ [])) r (now (out .exit)) ⌝ }
 {
-    let p = put_bytes(out, 0, word);
+    let p = put_bytes(out, 0, name);
     let w = [z];
     put_commas(out, p, &w)
 }
 
-// The length of a row, or 289 where it is more: such a row has no room in a table.
+// The length of a row, or one more than the words of the largest table where it is more, as it is for each k past 143.
 fn row_len(block: &[i64]) -> usize
-    ensures { λ r. ⌜ r ≡ min (rowLen (now (block .entry))) 289 ⌝ }
+    ensures { λ r. ⌜ r ≡ min (rowLen (now (block .entry))) (tableMost + 1) ⌝ }
 {
     if block.len() == 0 {
         return 1;
@@ -88,13 +90,14 @@ fn row_len(block: &[i64]) -> usize
         return 1;
     }
     if k > 143 {
-        return 289;
+        return TABLE_WORDS + 1;
     }
     1 + 2 * k as usize
 }
 
+// Puts what is printed for a settled table that is no longer than the largest.
 fn put_table(out: &mut [u8], block: &[i64], table: &[i64]) -> usize
-    requires { ⌜ length (now table) ≤ 288 ⌝ }
+    requires { ⌜ length (now table) ≤ tableMost ⌝ }
     ensures { λ r. ⌜ Put (now (out .entry)) 0 (printedFor 0 (now (block .entry)) (some (now (table .entry)))) r (now (out .exit)) ⌝ }
 {
     let len = row_len(block);
@@ -103,17 +106,18 @@ fn put_table(out: &mut [u8], block: &[i64], table: &[i64]) -> usize
     put_rows(out, p, len, n, table)
 }
 
-// A settled table: 288 words, which no accepted sheet goes past, are looked at.
+// Puts what is printed for a settled table. Words past those of the largest table, which no accepted sheet has, are not looked at.
 pub fn put_settled(out: &mut [u8], block: &[i64], table: &[i64]) -> usize
-    ensures { λ r. ⌜ Put (now (out .entry)) 0 (printedFor 0 (now (block .entry)) (some (take 288 (now (table .entry))))) r
+    ensures { λ r. ⌜ Put (now (out .entry)) 0 (printedFor 0 (now (block .entry)) (some (take tableMost (now (table .entry))))) r
         (now (out .exit)) ⌝ }
 {
-    if table.len() > 288 {
-        return put_table(out, block, &table[..288]);
+    if table.len() > TABLE_WORDS {
+        return put_table(out, block, &table[..TABLE_WORDS]);
     }
     put_table(out, block, table)
 }
 
+// Puts what is printed for a refusal.
 pub fn put_refused(out: &mut [u8], refusal: i64) -> usize
     ensures { λ r. ⌜ Put (now (out .entry)) 0 (ascii "REFUSED" ++ commas (refusal ∷ [])) r (now (out .exit)) ⌝ }
 {

@@ -26,7 +26,7 @@ fn fill_digits(buf: &mut [u8], n: u64) -> usize
     i
 }
 
-// A 64-bit number has at most 20 digits.
+// Puts the digits of `n`. A 64-bit number has at most 20.
 pub fn put_natural(out: &mut [u8], at: usize, n: u64) -> usize
     requires { ⌜ at ≤ 1000000 ⌝ }
     ensures { λ r. ⌜ Put (now (out .entry)) at (shown (pos n)) r (now (out .exit)) ⌝ }
@@ -47,6 +47,7 @@ fn magnitude(v: i64) -> u64
     v as u64
 }
 
+// Puts a word: a minus where it is negative, and its digits.
 pub fn put_number(out: &mut [u8], at: usize, v: i64) -> usize
     requires { ⌜ at + 1 ≤ 1000000 ⌝ }
     ensures { λ r. ⌜ Put (now (out .entry)) at (shown v) r (now (out .exit)) ⌝ }

@@ -25,8 +25,9 @@ use Rattle.sheet.proofs.Points.{found, met}
 use Rattle.sheet.proofs.Extremes.{least-by, greatest-by, least-unique, greatest-unique}
 use Rattle.sheet.proofs.Narrows.{row-allowed-by, row-allowed-parts}
 use Rattle.sheet.proofs.NarrowsOnce.{narrow-is}
-use Rattle.narrow.specs.Ends.{endAt, StandsTo, Edge, End}
-use Rattle.narrow.specs.Hulls.{HullTo}
+use Rattle.points.specs.Ends.{endAt}
+use Rattle.narrow.specs.Ends.{StandsTo, Edge, End}
+use Rattle.narrow.specs.Shapes.{KeptTo}
 
 module _ (block : List ℤ) (t : List ℤ) (table : Table block t) (i : ℕ) (from : 1 ≤ i) (upto : i ≤ rows block t) where
   -- a point of the row is one of its shapes up to 32
@@ -106,7 +107,7 @@ module _ (block : List ℤ) (t : List ℤ) (table : Table block t) (i : ℕ) (fr
       ap₂ (λ (xs ys : List ℤ). xs ++ ys) (pairs-same n f g f' g' (λ d l. h d (omega arith)))
       (ap₂ (λ (x y : ℤ). x ∷ y ∷ []) (h n (omega arith) .0) (h n (omega arith) .1))
 
-  module _ (set : ℕ) (ends : List ℤ) (left : 1 ≤ set) (x : HullTo block t i 32 set ends) where
+  module _ (set : ℕ) (ends : List ℤ) (left : 1 ≤ set) (x : KeptTo block t i 32 set ends) where
     abbrev row-words : List ℤ
     row-words = pos set ∷ pairsBelow (axes block) (λ d. endAt false d ends) (λ d. endAt true d ends)
 
@@ -115,7 +116,7 @@ module _ (block : List ℤ) (t : List ℤ) (table : Table block t) (i : ℕ) (fr
     words-are p st =
         ap₂ (λ (n : ℕ) (xs : List ℤ). pos n ∷ xs) (sym (x .kept))
         (pairs-same (axes block) (narrowLow block t i) (narrowHigh block t i) (λ d. endAt false d ends) (λ d. endAt true d ends)
-        (λ d l. (low-is p st d l (endAt false d ends) (x .reach false d l), high-is p st d l (endAt true d ends) (x .reach true d l))))
+        (λ d l. (low-is p st d l (endAt false d ends) (x .ends-of false d l), high-is p st d l (endAt true d ends) (x .ends-of true d l))))
 
     pub narrow-some : narrowOf block t i ≡ some (replaced t (rowAt block i) row-words)
     unfolding narrowOf

@@ -1,7 +1,7 @@
-pub mod Shapes
+pub mod Edges
 pub mod Complete
 pub mod Taking
 pub mod Widens
-pub mod Hulls
+pub mod KeptTo
 pub mod Writes
 pub mod Answers

@@ -20,8 +20,9 @@ use Rattle.region.specs.Rooms.{CutBox}
 use Rattle.points.proofs.Areas.{area-at, area-by, low-in, none-in, low-high}
 use Rattle.bounds.specs.Search.{Ahead, freeIn}
 use Rattle.bounds.proofs.Cutting.{cut-free}
-use Rattle.narrow.specs.Ends.{past-from, past-to, none-past, farther}
-use Rattle.narrow.proofs.Shapes.{ahead-trans, not-past, farther-ahead}
+use Rattle.points.specs.Ends.{farther}
+use Rattle.narrow.specs.Ends.{past-from, past-to, none-past}
+use Rattle.narrow.proofs.Edges.{ahead-trans, not-past, farther-ahead}
 
 -- the part of an area that lies strictly ahead of z holds a point, its outmost, if there is any
 module _ (k : ℕ) (cut area : Area) (small : Small cut) (holds : inArea k cut (cut .low) ≡ true) (d : ℕ) (h : d < k) where

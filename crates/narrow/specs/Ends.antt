@@ -14,45 +14,34 @@ use Rattle.sheet.specs.Layout.{axes, hasShape}
 use Rattle.sheet.specs.Allowed.{allowed}
 use Rattle.sheet.specs.Narrow.{Reached}
 use Rattle.points.specs.declared.Area.{Area}
-use Rattle.points.specs.Area.{coordinates, areaWords, maxZ, minZ, inArea}
+use Rattle.points.specs.Area.{reach, areaWords, inArea}
+use Rattle.points.specs.Ends.{endAt}
 use Rattle.region.specs.Rooms.{CutBox}
 use Rattle.outline.specs.Outline.{Subject}
 use Rattle.nearby.specs.declared.Nearby.{Nearby}
 use Rattle.nearby.specs.Listing.{Listed}
 use Rattle.bounds.specs.Search.{Ahead}
 
--- an end in a run of eight: the low one, or where flip is set the high one
-abbrev pub endAt : Bool → ℕ → List ℤ → ℤ
-endAt true d ends = word ends (coordinates + d)
-endAt false d ends = word ends d
-
 -- an end that no point has reached: past every point of an accepted sheet, on the side from which the search comes
+abbrev pub beyond : ℕ
+beyond = 1500000
+
 abbrev pub nowhere : Bool → ℤ
-nowhere flip = cond flip (minus 1500000) (pos 1500000)
+nowhere flip = cond flip (minus beyond) (pos beyond)
 
 -- strictly ahead of z: from `past-from flip z` to `past-to flip z`
 abbrev pub past-from : Bool → ℤ → ℤ
 past-from true z = z +ℤ pos 1
-past-from false z = minus 2000000
+past-from false z = minus reach
 
 abbrev pub past-to : Bool → ℤ → ℤ
-past-to true z = pos 2000000
+past-to true z = pos reach
 past-to false z = z -ℤ pos 1
 
 -- no point of the area lies there in dimension d
 abbrev pub none-past : Bool → Area → ℕ → ℤ → Bool
 none-past true a d z = leZ (word (a .high) d) z
 none-past false a d z = leZ z (word (a .low) d)
-
--- the end z taken out to y
-abbrev pub farther : Bool → ℤ → ℤ → ℤ
-farther true z y = maxZ z y
-farther false z y = minZ z y
-
--- the ends in the dimensions below m are taken out to point p, the others not yet
-pub record Taken (m : ℕ) (old p new : List ℤ) : Type 0 where
-  pub moved : (flip : Bool) (d : ℕ) → d < m → endAt flip d new ≡ farther flip (endAt flip d old) (word p d)
-  pub kept : (flip : Bool) (d : ℕ) → m ≤ d → d < coordinates → endAt flip d new ≡ endAt flip d old
 
 module _ (block : List ℤ) (t : List ℤ) (i : ℕ) where
   -- row i with one of the shapes 1 to n of its set is allowed at p

@@ -1,3 +1,3 @@
 pub mod Ends
-pub mod Hulls
+pub mod Shapes
 pub mod Steps

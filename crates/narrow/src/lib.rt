@@ -1,7 +1,7 @@
-// Narrowing one row (document 01): the hull of its points is searched shape by shape, and written into the row. What can forbid it is
+// Narrowing one row (document 01): its points are searched shape by shape, and the ends that they reach are written into the row. What can forbid it is
 // listed, for each shape once, in runs that the caller lends.
-mod ends;
-mod hull;
+mod kept;
+mod widen;
 
 ghost use mathlib.Core.Path.{_≡_};
 ghost use mathlib.Core.Bool.{Bool, true, false, not, _||_};
@@ -16,11 +16,10 @@ ghost use Rattle.sheet.specs.Layout.{axes, rowAt};
 ghost use Rattle.sheet.specs.Narrow.{narrowOf};
 ghost use Rattle.sheet.specs.Refusal.{refusalRow};
 ghost use Rattle.sheet.specs.Answer.{narrowAnswer, tableAfter};
-ghost use Rattle.sheet.specs.Accepted.{Head, Rows};
 ghost use Rattle.words.specs.Places.{RowPlace};
 ghost use Rattle.points.specs.Area.{areaWords};
 ghost use Rattle.outline.specs.Outline.{OnRow};
-ghost use Rattle.narrow.specs.Ends.{endAt};
+ghost use Rattle.points.specs.Ends.{endAt};
 ghost use Rattle.narrow.specs.Steps.{stepAnswer};
 use nearby::known::KNOWN;
 use nearby::suspect;
@@ -29,6 +28,7 @@ use nearby::suspect::FEW_WORDS;
 use nearby::suspect::MANY_WORDS;
 use outline::OUTLINE;
 use points::COORDINATES;
+use points::ends;
 use sheet::Narrowing;
 use words::Place;
 
@@ -57,8 +57,7 @@ fn put(table: &mut [i64], at: usize, w: i64, moved: bool) -> bool
 
 // Writes row i's words. Whether one of them changed.
 fn write_row(block: &[i64], table: &mut [i64], i: Place, shapes: u32, ends: &[i64]) -> bool
-    requires { ⌜ Head (now block) × Rows (now block) (now table) × RowPlace (now block) (now table) i
-        × (length (now ends) ≡ areaWords) ⌝ }
+    requires { ⌜ RowPlace (now block) (now table) i × (length (now ends) ≡ areaWords) ⌝ }
     ensures { λ r. ⌜ (now (table .exit) ≡ replaced (now (table .entry)) (rowAt (now (block .entry)) (i .number))
         (pos shapes ∷ pairsBelow (axes (now (block .entry))) (λ d. endAt false d (now (ends .entry)))
         (λ d. endAt true d (now (ends .entry)))))
@@ -89,17 +88,8 @@ pub fn narrow_row(
     ensures { λ r. ⌜ (r ≡ stepAnswer (now (table .entry)) (narrowOf (now (block .entry)) (now (table .entry)) (i .number)))
         × (now (table .exit) ≡ valueOr (now (table .entry)) (narrowOf (now (block .entry)) (now (table .entry)) (i .number))) ⌝ }
 {
-    let mut ends = [
-        NOWHERE,
-        NOWHERE,
-        NOWHERE,
-        NOWHERE,
-        -NOWHERE,
-        -NOWHERE,
-        -NOWHERE,
-        -NOWHERE,
-    ];
-    let shapes = hull::row_hull(block, table, outline, suspects, known, &mut ends, i);
+    let mut ends = ends::ends_at(NOWHERE, -NOWHERE);
+    let shapes = kept::kept_shapes(block, table, outline, suspects, known, &mut ends, i);
     if shapes == 0 {
         return Step::NoPlace;
     }

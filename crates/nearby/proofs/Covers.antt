@@ -1,5 +1,5 @@
--- A rule that counts forbids what the rule that it covers forbids; so the rules that count forbid all that is forbidden, and a row that they
--- let no other reach is reached by no rule. Assumes nothing.
+-- A rule that counts forbids what the rule that it covers forbids; so the rules that count forbid all that is forbidden, and a row to which
+-- another one does no harm by them is harmed by it under no rule. Assumes nothing.
 use mathlib.Core.Path.{_≡_, sym, _∙_}
 use mathlib.Core.Bool.{true, _&&_}
 use mathlib.Core.List.{List}
@@ -17,7 +17,7 @@ use Rattle.outline.specs.Places.{rulesAt}
 use Rattle.outline.specs.Rules.{Rules}
 use Rattle.forbid.specs.Region.{ruleForbids}
 use Rattle.forbid.proofs.Rows.{some-row, named-set}
-use Rattle.nearby.specs.Due.{Unreached}
+use Rattle.nearby.specs.Due.{HarmlessBy}
 
 module _ (block t : List ℤ) (r q : ℕ) (fewer : (d : ℕ) → d < dims block → namesDim block q d ≡ true → namesDim block r d ≡ true) where
   -- what is forbidden in every dimension that r names is so in every dimension that q names
@@ -59,12 +59,12 @@ module _ (block t o : List ℤ) (w : Rules block o) where
       (sym (named-set block t (c .rule) i s (u .other) (u .another) (c .names (u .other) (u .names-other)) p)
       ∙ set-covered block t (u .rule) (c .rule) (c .dims-of) i s (u .other) p (u .set)))))
 
-  -- a row that no rule that counts lets row j reach is reached by no rule
-  pub unreached-covered : (j i : ℕ)
+  -- where row j does row i no harm by the rules that count, it does none by any
+  pub harmless-covered : (j i : ℕ)
       → ((q : ℕ) → q < rules block → bit (word o rulesAt) q ≡ true → isNonOverlap block q ≡ true → namesRow block q j ≡ true
-      → namesRow block q i ≡ true → Unreached block t q j i)
-      → (r : ℕ) → r < rules block → isNonOverlap block r ≡ true → namesRow block r j ≡ true → namesRow block r i ≡ true → Unreached block t r j i
-  unreached-covered j i f r h k nj ni =
+      → namesRow block q i ≡ true → HarmlessBy block t q j i)
+      → (r : ℕ) → r < rules block → isNonOverlap block r ≡ true → namesRow block r j ≡ true → namesRow block r i ≡ true → HarmlessBy block t r j i
+  harmless-covered j i f r h k nj ni =
       let c = w .covered r h k in
       let u = f (c .rule) (c .below) (c .counts) (c .kind) (c .names j nj) (c .names i ni) in
-      record { clear = λ s p a b. fails (λ e. clash (set-covered block t r (c .rule) (c .dims-of) i s j p e) (u .clear s p a b)) }
+      record { spares = λ s p a b. fails (λ e. clash (set-covered block t r (c .rule) (c .dims-of) i s j p e) (u .spares s p a b)) }

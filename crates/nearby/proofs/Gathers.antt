@@ -21,11 +21,12 @@ use Rattle.sheet.specs.Accepted.{Count}
 use Rattle.points.specs.declared.Area.{Area}
 use Rattle.points.specs.Area.{inArea}
 use Rattle.outline.specs.Chain.{Sole}
-use Rattle.nearby.specs.Places.{suspectLen, suspectAt, full, suspectArea, SameBut}
+use Rattle.points.specs.Ends.{SameBut}
+use Rattle.nearby.specs.Places.{suspectLen, suspectAt, full, suspectArea}
 use Rattle.nearby.specs.Known.{Remembered}
 use Rattle.nearby.specs.Listing.{Known, Suspect, Met, Suspects}
 use Rattle.nearby.specs.Adding.{Gathered, Open, Grows, Threat}
-use Rattle.nearby.proofs.Runs.{area-kept}
+use Rattle.points.proofs.Runs.{area-kept}
 use Rattle.nearby.proofs.Remembered.{held-before, held-new, known-more}
 
 -- ---- what stays where the words before suspect n do

@@ -1,4 +1,3 @@
-pub mod Runs
 pub mod Remembered
 pub mod Covers
 pub mod Threats

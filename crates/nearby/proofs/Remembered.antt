@@ -17,14 +17,15 @@ use Rattle.integers.proofs.Ints.{ints}
 use Rattle.sheet.specs.Layout.{axes}
 use Rattle.sheet.specs.Allowed.{forbidden}
 use Rattle.points.specs.declared.Area.{Area}
-use Rattle.points.specs.Area.{areaWords, inArea, Small}
+use Rattle.points.specs.Area.{areaWords, inArea, Small, areaAt}
 use Rattle.forbid.specs.declared.Region.{Region}
-use Rattle.forbid.specs.Region.{Forbids}
+use Rattle.forbid.specs.Region.{IsRegion}
 use Rattle.nearby.specs.declared.Nearby.{Nearby}
-use Rattle.nearby.specs.Places.{areaAt, knownMost, knownAt, knownCount, knownArea, SameBut}
+use Rattle.points.specs.Ends.{SameBut}
+use Rattle.nearby.specs.Places.{knownMost, knownAt, knownCount, knownArea}
 use Rattle.nearby.specs.Known.{Counted, Remembered, knownHolds, KnownAt}
 use Rattle.nearby.specs.Listing.{Known, Listed}
-use Rattle.nearby.proofs.Runs.{same-none, same-set, area-kept}
+use Rattle.points.proofs.Runs.{same-none, same-set, area-kept}
 
 -- ---- the words
 pub counted-by : {known : List ℤ} {n : ℕ} → word known 0 ≡ pos n → n ≤ knownMost → Counted known
@@ -106,12 +107,12 @@ module _ {block t : List ℤ} {i s : ℕ} where
 
   -- a point in one of them
   pub known-forbids : {known p : List ℤ} {x : Region} → Known block t i s known → KnownAt block known p (x .area) → x .hit ≡ true
-      → Forbids (axes block) (forbidden block t i s) p x
+      → IsRegion (axes block) (forbidden block t i s) p x
   known-forbids {known} {p} {x} w k h =
       let a = subst (Filled block t i s) (sym (k .is)) (filled-at w (k .entry) (k .below)) in
       record { hit = h ∙ sym (a .forbids p (k .holds)); around = λ u. k .holds; only = λ u. a .forbids; small = a .small }
 
-  pub filled-region : {p : List ℤ} {x : Region} → Forbids (axes block) (forbidden block t i s) p x → x .hit ≡ true
+  pub filled-region : {p : List ℤ} {x : Region} → IsRegion (axes block) (forbidden block t i s) p x → x .hit ≡ true
       → Filled block t i s (x .area)
   filled-region f h = record { forbids = f .only h; small = f .small }
 

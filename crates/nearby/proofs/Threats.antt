@@ -8,9 +8,9 @@ use lib.IntN.{ℤ}
 use Rattle.integers.proofs.Booleans.{and-true, true-and, fails}
 use Rattle.integers.proofs.Ints.{ints}
 use Rattle.integers.proofs.Machine.{within-between, within-weaken}
-use Rattle.sheet.specs.Layout.{axes, rows, namesRow, shapeSet}
+use Rattle.sheet.specs.Layout.{axes, rows, namesRow}
 use Rattle.sheet.specs.Allowed.{inRanges, shapesForbid, setForbids, rowForbids, forbidden}
-use Rattle.sheet.specs.Accepted.{Count, Boxed, Head, Table}
+use Rattle.sheet.specs.Accepted.{Boxed, Head, Table}
 use Rattle.sheet.proofs.Forbidden.{in-range, forbidden-by}
 use Rattle.words.specs.declared.Place.{Place}
 use Rattle.words.specs.Places.{RowPlace}
@@ -24,14 +24,10 @@ use Rattle.forbid.specs.Region.{OnlyShape}
 use Rattle.forbid.proofs.Rows.{named-set, single-set, single-boxed}
 use Rattle.forbid.proofs.Solids.{forbidsTo, hulls-forbid, hulls-fill, hull-places}
 use Rattle.nearby.specs.Adding.{Binds, Threat}
-use Rattle.nearby.specs.Due.{ShapeUnreached}
+use Rattle.nearby.specs.Due.{ShapeHarmless}
 
 -- ---- a row of the table
 module _ {block t : List ℤ} {i : ℕ} (table : Table block t) (from : 1 ≤ i) (upto : i ≤ rows block t) where
-  -- its set is a set
-  pub set-count : Count (shapeSet block t i)
-  set-count = record { from = omega (ints, table .sets-from i from upto); upto = table .sets-upto i from upto }
-
   -- a point of its ranges is in the field
   pub ranges-field : Head block → (p : List ℤ) → inRanges block t i p ≡ true → inArea (axes block) fieldArea p ≡ true
   ranges-field head p e = in-field (head .few-axes) (record {
@@ -45,9 +41,9 @@ abbrev pub HullsClear : List ℤ → List ℤ → List ℤ → Place → Place �
 HullsClear block t o r j u i s =
     (p : List ℤ) → inRanges block t i p ≡ true → forbidsTo block t o r j (hullOf s) (hullOf u) p ≡ true → ⊥
 
-pub hulls-unreached : {block t o : List ℤ} → Table block t → Outline block o → (r j : Place) {u i : ℕ} (s : ℕ) → Boxed block u
-    → 1 ≤ i → i ≤ rows block t → HullsClear block t o r j u i s → ShapeUnreached block t (r .number) (j .number) u i s
-hulls-unreached {block} {t} {o} table outline r j {u} {i} s other from upto f p h inside =
+pub hulls-harmless : {block t o : List ℤ} → Table block t → Outline block o → (r j : Place) {u i : ℕ} (s : ℕ) → Boxed block u
+    → 1 ≤ i → i ≤ rows block t → HullsClear block t o r j u i s → ShapeHarmless block t (r .number) (j .number) u i s
+hulls-harmless {block} {t} {o} table outline r j {u} {i} s other from upto f p h inside =
     fails (λ e. f p inside (hulls-forbid block t o r j outline i (table .boxed i s from upto h) other p e))
 
 -- ---- row j, which rule r keeps apart from row i with shape s, has the one shape u

@@ -57,7 +57,7 @@ pub record Binds (block : List ℤ) (i : ℕ) (r : Place) : Type 0 where
   pub names : namesRow block (r .number) i ≡ true
 
 -- the runs to which an area is added, and the numbers of the shapes, the rule and the row
-pub record Room (block o list known : List ℤ) (n s u r j : ℕ) : Type 0 where
+pub record Space (block o list known : List ℤ) (n s u r j : ℕ) : Type 0 where
   pub head : Head block
   pub chained : Chained block o
   pub own : s < shapesMost

@@ -2,8 +2,9 @@
 use mathlib.Core.Path.{_≡_}
 use mathlib.Core.Bool.{true, false}
 use mathlib.Core.List.{List}
-use Prim.Native.Nat.{ℕ, _≤_}
+use Prim.Native.Nat.{ℕ}
 use lib.IntN.{ℤ}
+use Rattle.integers.specs.Below.{UpTo}
 use Rattle.sheet.specs.Layout.{hasShape}
 use Rattle.sheet.specs.Allowed.{inRanges, shapesForbid, setForbids}
 use Rattle.sheet.specs.Accepted.{Boxed, Block, Table}
@@ -13,12 +14,12 @@ use Rattle.outline.specs.Outline.{Outline}
 
 module _ (block t : List ℤ) where
   -- row j forbids row i no point of its ranges by rule r
-  pub record Unreached (r j i : ℕ) : Type 0 where
-    pub clear : (s : ℕ) (p : List ℤ) → hasShape block t i s ≡ true → inRanges block t i p ≡ true → setForbids block t r p i s j ≡ false
+  pub record HarmlessBy (r j i : ℕ) : Type 0 where
+    pub spares : (s : ℕ) (p : List ℤ) → hasShape block t i s ≡ true → inRanges block t i p ≡ true → setForbids block t r p i s j ≡ false
 
   -- the same of shape s of row i and shape u of row j
-  abbrev pub ShapeUnreached : ℕ → ℕ → ℕ → ℕ → ℕ → Type 0
-  ShapeUnreached r j u i s = (p : List ℤ) → hasShape block t i s ≡ true → inRanges block t i p ≡ true → shapesForbid block t r p i s j u ≡ false
+  abbrev pub ShapeHarmless : ℕ → ℕ → ℕ → ℕ → ℕ → Type 0
+  ShapeHarmless r j u i s = (p : List ℤ) → hasShape block t i s ≡ true → inRanges block t i p ≡ true → shapesForbid block t r p i s j u ≡ false
 
   -- a rule and two rows of an accepted sheet, whose outline is o
   pub record Faces (o : List ℤ) (r j i : Place) : Type 0 where
@@ -33,5 +34,4 @@ module _ (block t : List ℤ) where
   pub record ShapeFaces (o : List ℤ) (r j : Place) (u : ℕ) (i : Place) (s : ℕ) : Type 0 where
     pub rows-of : Faces o r j i
     pub shape : Boxed block u
-    pub from : 1 ≤ s
-    pub upto : s ≤ 32
+    pub number : UpTo 32 s

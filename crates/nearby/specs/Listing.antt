@@ -12,9 +12,9 @@ use Rattle.sheet.specs.Allowed.{inRanges, setForbids, forbidden}
 use Rattle.sheet.specs.Accepted.{Count}
 use Rattle.words.specs.Places.{RowPlace}
 use Rattle.points.specs.Area.{inArea, Small}
-use Rattle.forbid.specs.Region.{Asked}
+use Rattle.forbid.specs.Region.{AtPoint}
 use Rattle.nearby.specs.declared.Nearby.{Nearby}
-use Rattle.nearby.specs.Places.{suspectAt, ruleOf, rowOf, suspectArea, knownCount, knownArea}
+use Rattle.nearby.specs.Places.{suspectAt, suspectRow, ruleOf, rowOf, suspectArea, knownCount, knownArea}
 use Rattle.nearby.specs.Known.{Counted, knownHolds}
 
 module _ (block t : List ℤ) (i s : ℕ) where
@@ -29,7 +29,7 @@ module _ (block t : List ℤ) (i s : ℕ) where
     -- suspect e names a rule and a row, and what they forbid is forbidden
     pub record Suspect (e : ℕ) : Type 0 where
       pub rule-count : Count (word list (suspectAt e))
-      pub row-count : Count (word list (suspectAt e + 1))
+      pub row-count : Count (word list (suspectRow e))
       pub rule : ruleOf list e < rules block
       pub from : 1 ≤ rowOf list e
       pub upto : rowOf list e ≤ rows block t
@@ -60,14 +60,14 @@ module _ (block t : List ℤ) (x : Nearby) (list : List ℤ) where
 
 -- a point of the row's ranges at which the list is asked
 pub record Sought (block t o : List ℤ) (x : Nearby) (list known p : List ℤ) : Type 0 where
-  pub asked : Asked block t o (x .s) p
+  pub at-point : AtPoint block t o (x .s) p
   pub row : RowPlace block t (x .i)
   pub inside : inRanges block t (x .i .number) p ≡ true
   pub listed : Listed block t x list known
 
 -- the same where only the suspects are asked
 pub record Suspected (block t o : List ℤ) (x : Nearby) (list p : List ℤ) : Type 0 where
-  pub asked : Asked block t o (x .s) p
+  pub at-point : AtPoint block t o (x .s) p
   pub row : RowPlace block t (x .i)
   pub suspects : Suspects block t (x .i .number) (x .s) list (x .count)
   pub meets : x .whole ≡ true → Meets block t x list p

@@ -1,7 +1,7 @@
 // Whether one row can forbid another anything: so the rows are found that are to be narrowed again when a row has moved.
 ghost use mathlib.Core.Path.{_≡_};
 ghost use mathlib.Core.Bool.{false};
-ghost use Rattle.nearby.specs.Due.{Unreached, ShapeUnreached, Faces, ShapeFaces};
+ghost use Rattle.nearby.specs.Due.{HarmlessBy, ShapeHarmless, Faces, ShapeFaces};
 use crate::gather;
 use forbid::pair;
 use forbid::row;
@@ -9,7 +9,7 @@ use outline::OUTLINE;
 use words::Place;
 
 // Whether shape t of row j can forbid row i with shape s a point of its ranges, if s is one of its shapes.
-fn reaches_shape(
+fn threatens_shape(
     block: &[i64],
     table: &[i64],
     outline: &[i64; OUTLINE],
@@ -20,7 +20,7 @@ fn reaches_shape(
     s: usize,
 ) -> bool
     requires { ⌜ ShapeFaces (now block) (now table) (now outline) r j t i s ⌝ }
-    ensures { λ x. ⌜ (x ≡ false → ShapeUnreached (now (block .entry)) (now (table .entry)) (r .number) (j .number) t (i .number) s) ⌝ }
+    ensures { λ x. ⌜ (x ≡ false → ShapeHarmless (now (block .entry)) (now (table .entry)) (r .number) (j .number) t (i .number) s) ⌝ }
 {
     if !words::has_shape(block, table, i, s) {
         return false;
@@ -30,7 +30,7 @@ fn reaches_shape(
 }
 
 // Whether row j can forbid row i some point of its ranges by rule r: no further than the last shape of row i's set.
-pub fn reaches_row(
+pub fn threatens_row(
     block: &[i64],
     table: &[i64],
     outline: &[i64; OUTLINE],
@@ -39,7 +39,7 @@ pub fn reaches_row(
     i: Place,
 ) -> bool
     requires { ⌜ Faces (now block) (now table) (now outline) r j i ⌝ }
-    ensures { λ x. ⌜ (x ≡ false → Unreached (now (block .entry)) (now (table .entry)) (r .number) (j .number) (i .number)) ⌝ }
+    ensures { λ x. ⌜ (x ≡ false → HarmlessBy (now (block .entry)) (now (table .entry)) (r .number) (j .number) (i .number)) ⌝ }
 {
     let t = row::only_shape(block, table, j);
     if t == 0 {
@@ -47,7 +47,7 @@ pub fn reaches_row(
     }
     let own = row::only_shape(block, table, i);
     if own > 0 {
-        return reaches_shape(block, table, outline, r, j, t, i, own);
+        return threatens_shape(block, table, outline, r, j, t, i, own);
     }
     let set = words::shapes_of(block, table, i);
     let mut s = 0;
@@ -55,7 +55,7 @@ pub fn reaches_row(
         if words::is_below(set, s) {
             return false;
         }
-        if reaches_shape(block, table, outline, r, j, t, i, s + 1) {
+        if threatens_shape(block, table, outline, r, j, t, i, s + 1) {
             return true;
         }
         s += 1;

@@ -13,7 +13,7 @@ ghost use Rattle.outline.specs.Outline.{Subject};
 ghost use Rattle.outline.specs.Places.{rulesAt, shapesMost, hullOf};
 ghost use Rattle.forbid.specs.Region.{rowsForbid, ruleForbids};
 ghost use Rattle.nearby.specs.Listing.{Listed};
-ghost use Rattle.nearby.specs.Adding.{Adding, Binds, Grows, Room, Threat};
+ghost use Rattle.nearby.specs.Adding.{Adding, Binds, Grows, Space, Threat};
 use crate::Nearby;
 use crate::known;
 use crate::known::KNOWN;
@@ -51,7 +51,7 @@ pub(crate) fn hulls(r: Place, s: usize, j: Place, t: usize) -> Pair
     }
 }
 
-// Lists an area that shape t of row j reaches by rule r: as known where both shapes have one box, and else as a suspect's. How many suspects
+// Lists the area that shape t of row j threatens by rule r: as known where both shapes have one box, and else as a suspect's. How many suspects
 // there are then.
 fn add_area(
     block: &[i64],
@@ -65,7 +65,7 @@ fn add_area(
     t: usize,
     area: Area,
 ) -> usize
-    requires { ⌜ Room (now block) (now outline) (now suspects) (now known) count s t r j ⌝ }
+    requires { ⌜ Space (now block) (now outline) (now suspects) (now known) count s t r j ⌝ }
     ensures { λ y. ⌜ ((table : List ℤ) (i : ℕ) → Threat (now (block .entry)) table i s r j t area
         → Grows (now (block .entry)) table i s (λ p. setForbids (now (block .entry)) table r p i s j)
         (now (suspects .entry)) (now (known .entry)) count (now (suspects .exit)) (now (known .exit)) y) ⌝ }
@@ -208,7 +208,7 @@ pub fn gather(
     requires { ⌜ Subject (now block) (now table) (now outline) i s ⌝ }
     ensures { λ x. ⌜ Listed (now (block .entry)) (now (table .entry)) x (now (suspects .exit)) (now (known .exit)) × (x .i ≡ i) × (x .s ≡ s) ⌝ }
 {
-    known::clear(known);
+    known::forget(known);
     let q = Query { i, s };
     let n = words::rules_of(block);
     let counted = rules::counting(outline);

@@ -6,14 +6,16 @@ ghost use lib.ListN.{length, set};
 ghost use Rattle.sheet.specs.Accepted.{Head};
 ghost use Rattle.nearby.specs.Places.{knownCount, knownMost};
 ghost use Rattle.nearby.specs.Known.{Counted, Remembered, KnownRegion};
-use crate::area;
 use forbid::Region;
-use points::AREA_WORDS;
 use points::Area;
 use points::COORDINATES;
+use points::ends;
+use points::ends::AREA_WORDS;
 
-// The most areas, where the first stands after their count, and the words of the run.
+// The most areas; where their count and the first of them stand, and the words of the run.
 const AREAS: usize = 64;
+
+const COUNT: usize = 0;
 
 const FIRST: usize = 1;
 
@@ -24,11 +26,11 @@ fn put_count(known: &mut [i64], n: usize)
     requires { ⌜ (0 < length (now known)) × (n ≤ knownMost) ⌝ }
     ensures { λ _. ⌜ now (known .exit) ≡ set (now (known .entry)) 0 (pos n) ⌝ }
 {
-    known[0] = n as i64;
+    known[COUNT] = n as i64;
 }
 
 // No area is known; the words may have been any.
-pub(crate) fn clear(known: &mut [i64; KNOWN])
+pub(crate) fn forget(known: &mut [i64; KNOWN])
     ensures { λ _. ⌜ Counted (now (known .exit)) × (knownCount (now (known .exit)) ≡ 0) ⌝ }
 {
     put_count(known, 0);
@@ -40,14 +42,14 @@ pub(crate) fn known_region(block: &[i64], known: &[i64; KNOWN], p: [i64; COORDIN
     ensures { λ x. ⌜ KnownRegion (now (block .entry)) (now (known .entry)) p x ⌝ }
 {
     let k = words::axes_of(block);
-    let mut e = words::count_at(known, 0);
+    let mut e = words::count_at(known, COUNT);
     while e > 0 {
         e -= 1;
         let at = FIRST + AREA_WORDS * e;
-        if area::area_holds(known, at, k, p) {
+        if ends::area_holds(known, at, k, p) {
             return Region {
                 hit: true,
-                area: area::area_at(known, at),
+                area: ends::area_at(known, at),
             };
         }
     }
@@ -59,11 +61,11 @@ pub(crate) fn remember(known: &mut [i64; KNOWN], area: Area) -> bool
     requires { ⌜ Counted (now known) ⌝ }
     ensures { λ r. ⌜ Remembered (now (known .entry)) area r (now (known .exit)) ⌝ }
 {
-    let n = words::count_at(known, 0);
+    let n = words::count_at(known, COUNT);
     if n >= AREAS {
         return false;
     }
-    area::put_area(known, FIRST + AREA_WORDS * n, area);
+    ends::put_area(known, FIRST + AREA_WORDS * n, area);
     put_count(known, n + 1);
     true
 }

@@ -1,6 +1,5 @@
 // What can forbid a row with a shape. Suspects, each another row and a rule with an area that holds all they can forbid, are listed once,
 // before the sweeps of that row and shape. Known areas, in which every point is forbidden, are remembered by the sweeps.
-mod area;
 pub mod due;
 pub mod gather;
 pub mod known;
@@ -8,7 +7,7 @@ pub mod suspect;
 
 ghost use Rattle.sheet.specs.Layout.{axes};
 ghost use Rattle.sheet.specs.Allowed.{forbidden};
-ghost use Rattle.forbid.specs.Region.{Forbids};
+ghost use Rattle.forbid.specs.Region.{IsRegion};
 ghost use Rattle.nearby.specs.Listing.{Listed, Sought};
 use crate::known::KNOWN;
 use forbid::Region;
@@ -37,7 +36,7 @@ pub fn region_at(
     p: [i64; COORDINATES],
 ) -> Region
     requires { ⌜ Sought (now block) (now table) (now outline) nearby (now suspects) (now known) p ⌝ }
-    ensures { λ x. ⌜ Forbids (axes (now (block .entry)))
+    ensures { λ x. ⌜ IsRegion (axes (now (block .entry)))
         (forbidden (now (block .entry)) (now (table .entry)) (nearby .i .number) (nearby .s)) p x
         × Listed (now (block .entry)) (now (table .entry)) nearby (now (suspects .entry)) (now (known .exit)) ⌝ }
 {

@@ -1,6 +1,6 @@
 // Suspects: another row and a rule, and an area that holds every point that they can forbid.
 ghost use mathlib.Core.Path.{_≡_};
-ghost use Prim.Native.Nat.{suc, _+_, _*_, _≤_};
+ghost use Prim.Native.Nat.{suc, _*_, _≤_};
 ghost use lib.Count.{ones};
 ghost use lib.IntN.{pos};
 ghost use lib.ListN.{length};
@@ -9,26 +9,30 @@ ghost use Rattle.integers.specs.Integer.{nat};
 ghost use Rattle.sheet.specs.Layout.{axes, rows};
 ghost use Rattle.sheet.specs.Allowed.{forbidden};
 ghost use Rattle.sheet.specs.Accepted.{Count, Head, Rows};
-ghost use Rattle.points.specs.Area.{areaWords};
+ghost use Rattle.points.specs.Ends.{SameBut};
 ghost use Rattle.outline.specs.Places.{rulesAt};
-ghost use Rattle.forbid.specs.Region.{Forbids};
-ghost use Rattle.nearby.specs.Places.{suspectLen, suspectAt, suspectArea, SameBut};
+ghost use Rattle.forbid.specs.Region.{IsRegion};
+ghost use Rattle.nearby.specs.Places.{suspectLen, suspectAt, suspectRow, suspectArea};
 ghost use Rattle.nearby.specs.Listing.{Suspected};
 use crate::Nearby;
-use crate::area;
 use forbid::Region;
 use forbid::row;
 use outline::OUTLINE;
 use outline::rules;
-use points::AREA_WORDS;
 use points::Area;
 use points::COORDINATES;
+use points::ends;
+use points::ends::AREA_WORDS;
 use words::Place;
 
-// The words of a suspect: its rule, its row, its area.
-pub const SUSPECT: usize = 2 + AREA_WORDS;
+// Where the words of a suspect stand: first its rule, then its row and its area; and how many there are.
+const ROW: usize = 1;
 
-// How many suspects a caller makes room for: a few where there can be no more, and else many; and the words of each.
+const AREA: usize = 2;
+
+pub const SUSPECT: usize = AREA + AREA_WORDS;
+
+// How many suspects a caller makes room for: a few where there can be no more, and else many; and the words of each number.
 pub const FEW: usize = 64;
 
 pub const FEW_WORDS: usize = FEW * SUSPECT;
@@ -47,13 +51,13 @@ pub fn most(block: &[i64], table: &[i64], outline: &[i64; OUTLINE]) -> usize
 pub(crate) fn put_suspect(suspects: &mut [i64], e: usize, r: usize, j: usize, area: Area)
     requires { ⌜ (suspectAt (suc e) ≤ length (now suspects)) × (r ≤ 32) × (j ≤ 32) ⌝ }
     ensures { λ _. ⌜ SameBut (suspectAt e) suspectLen (now (suspects .entry)) (now (suspects .exit))
-        × (word (now (suspects .exit)) (suspectAt e) ≡ pos r) × (word (now (suspects .exit)) (suspectAt e + 1) ≡ pos j)
+        × (word (now (suspects .exit)) (suspectAt e) ≡ pos r) × (word (now (suspects .exit)) (suspectRow e) ≡ pos j)
         × (suspectArea (now (suspects .exit)) e ≡ area) ⌝ }
 {
     let at = SUSPECT * e;
     suspects[at] = r as i64;
-    suspects[at + 1] = j as i64;
-    area::put_area(suspects, at + 2, area);
+    suspects[at + ROW] = j as i64;
+    ends::put_area(suspects, at + AREA, area);
 }
 
 // What forbids p among the suspects whose area holds it, or where the list is not whole among all rules and rows.
@@ -66,7 +70,7 @@ pub(crate) fn suspected_region(
     p: [i64; COORDINATES],
 ) -> Region
     requires { ⌜ Suspected (now block) (now table) (now outline) nearby (now suspects) p ⌝ }
-    ensures { λ x. ⌜ Forbids (axes (now (block .entry)))
+    ensures { λ x. ⌜ IsRegion (axes (now (block .entry)))
         (forbidden (now (block .entry)) (now (table .entry)) (nearby .i .number) (nearby .s)) p x ⌝ }
 {
     let k = words::axes_of(block);
@@ -80,9 +84,9 @@ pub(crate) fn suspected_region(
     let mut e = 0;
     while e < count {
         let at = SUSPECT * e;
-        if area::area_holds(suspects, at + 2, k, p) {
+        if ends::area_holds(suspects, at + AREA, k, p) {
             let r = words::rule_place(block, words::count_at(suspects, at));
-            let j = words::row_place(block, table, words::count_at(suspects, at + 1));
+            let j = words::row_place(block, table, words::count_at(suspects, at + ROW));
             let x = row::set_region(block, table, outline, r, s, j, p);
             let hit = x.hit;
             if hit {

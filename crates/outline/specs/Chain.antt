@@ -7,7 +7,7 @@ use lib.IntN.{ℤ}
 use Rattle.integers.specs.Integer.{nat}
 use Rattle.integers.specs.Words.{word}
 use Rattle.sheet.specs.Layout.{boxes, isOf}
-use Rattle.sheet.specs.Accepted.{Count}
+use Rattle.sheet.specs.Accepted.{Count, Head}
 use Rattle.outline.specs.Places.{shapesMost, nextAt, firstAt}
 
 module _ (block o : List ℤ) where
@@ -34,6 +34,13 @@ module _ (block o : List ℤ) where
   -- so for all boxes
   abbrev pub Chained : Type 0
   Chained = ChainedFrom 0
+
+-- box b is one of shape s, in a block whose boxes are chained
+pub record Linked (block o : List ℤ) (b s : ℕ) : Type 0 where
+  pub head : Head block
+  pub chained : Chained block o
+  pub below : b < boxes block
+  pub is : isOf block b s ≡ true
 
 -- box b is the one box of shape s
 pub record SoleBox (block : List ℤ) (s b : ℕ) : Type 0 where

@@ -4,7 +4,7 @@ use mathlib.Core.List.{List}
 use Prim.Native.Nat.{ℕ, _+_, _*_, _<_}
 use lib.IntN.{ℤ}
 use Rattle.integers.specs.Words.{word}
-use Rattle.points.specs.Area.{coordinates}
+use Rattle.points.specs.Area.{coordinates, areaWords}
 
 -- the most boxes of a block, and one more than its greatest shape number
 abbrev pub boxesMost : ℕ
@@ -32,7 +32,7 @@ hullOf s = boxesMost + s
 
 -- the words of solid x: where it starts in each dimension, and where it ends
 abbrev pub solidLen : ℕ
-solidLen = 8
+solidLen = areaWords
 
 abbrev pub solidAt : ℕ → ℕ
 solidAt x = rulesAt + 1 + solidLen * x

@@ -8,9 +8,10 @@ use lib.IntN.{ℤ, pos, _+ℤ_}
 use lib.Signed.{_≤ℤ_}
 use Rattle.integers.specs.Integer.{minus, Within}
 use Rattle.sheet.specs.Layout.{dims, boxes, isOf, offset, size}
+use Rattle.sheet.specs.Accepted.{Boxed, Block}
 use Rattle.outline.specs.declared.solid.Extent.{Extent}
 use Rattle.outline.specs.Places.{hullOf, startOf, endOf}
-use Rattle.outline.specs.Chain.{SoleBox}
+use Rattle.outline.specs.Chain.{Chained, SoleBox}
 
 -- no box of an accepted sheet starts or ends farther from its row's origin
 abbrev pub far : ℕ
@@ -47,6 +48,13 @@ module _ (block : List ℤ) where
 
     abbrev pub Boxes : Type 0
     Boxes = (b : ℕ) → b < boxes block → IsBox b
+
+    -- what the hull of shape s is made of: the shape's boxes as a chain, and where each starts and ends
+    pub record Spanning (s : ℕ) : Type 0 where
+      pub accepted : Block block
+      pub chained : Chained block o
+      pub boxes-of : Boxes
+      pub shape : Boxed block s
 
     -- solid x lies in solid y
     pub record Inside (x y : ℕ) : Type 0 where

@@ -7,14 +7,14 @@ ghost use Rattle.integers.specs.Words.{word};
 ghost use Rattle.sheet.specs.Layout.{boxes, isOf};
 ghost use Rattle.sheet.specs.Accepted.{Head, Block};
 ghost use Rattle.outline.specs.Places.{shapesMost, firstAt};
-ghost use Rattle.outline.specs.Chain.{Chained, ChainedFrom, Sole};
+ghost use Rattle.outline.specs.Chain.{Chained, ChainedFrom, Linked, Sole};
 use crate::FIRST;
 use crate::OUTLINE;
 use crate::SHAPES;
 use crate::put;
 
 // No shape has a box yet: the first box of each is n, the number of boxes.
-fn clear(outline: &mut [i64; OUTLINE], n: usize)
+fn unlink(outline: &mut [i64; OUTLINE], n: usize)
     requires { ⌜ n ≤ 128 ⌝ }
     ensures { λ _. ⌜ ((s : ℕ) → s < shapesMost → word (now (outline .exit)) (firstAt s) ≡ pos n) ⌝ }
 {
@@ -43,7 +43,7 @@ pub(crate) fn link_boxes(block: &[i64], outline: &mut [i64; OUTLINE])
     ensures { λ _. ⌜ Chained (now (block .entry)) (now (outline .exit)) ⌝ }
 {
     let n = words::boxes_of(block);
-    clear(outline, n);
+    unlink(outline, n);
     let mut b = n;
     while b > 0 {
         b -= 1;
@@ -62,7 +62,7 @@ pub fn first_of(block: &[i64], outline: &[i64; OUTLINE], s: usize) -> usize
 
 // The next box of shape s after box b, which is one; the number of boxes where there is none.
 pub fn after(block: &[i64], outline: &[i64; OUTLINE], b: usize, s: usize) -> usize
-    requires { ⌜ Head (now block) × Chained (now block) (now outline) × (b < boxes (now block)) × (isOf (now block) b s ≡ true) ⌝ }
+    requires { ⌜ Linked (now block) (now outline) b s ⌝ }
     ensures { λ r. ⌜ (b < r) × (r ≤ boxes (now (block .entry))) × (r < boxes (now (block .entry)) → isOf (now (block .entry)) r s ≡ true)
         × ((c : ℕ) → b < c → c < r → isOf (now (block .entry)) c s ≡ false) ⌝ }
 {

@@ -10,13 +10,12 @@ ghost use lib.IntN.{pos};
 ghost use lib.ListN.{length, set};
 ghost use Rattle.sheet.specs.Accepted.{Block};
 ghost use Rattle.outline.specs.Outline.{Outline};
-use points::AREA_WORDS;
+use points::ends::AREA_WORDS;
+use sheet::BOXES;
 
 // ---- where the words stand: first the next box of each box's shape
 
-// The most boxes of a block, and one more than its greatest shape number.
-const BOXES: usize = 128;
-
+// One more than the greatest shape number: there is no shape 0.
 const SHAPES: usize = 33;
 
 // The first box of shape s stands at FIRST + s.

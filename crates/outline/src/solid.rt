@@ -7,14 +7,14 @@ ghost use Rattle.sheet.specs.Layout.{dims, boxes};
 ghost use Rattle.sheet.specs.Accepted.{Boxed, Block};
 ghost use Rattle.outline.specs.Places.{hullOf, shapesMost, solidAt, solids, startOf, endOf, SameTo};
 ghost use Rattle.outline.specs.Chain.{Chained};
-ghost use Rattle.outline.specs.Solids.{IsBox, Boxes, Spans, Hull};
-use crate::BOXES;
+ghost use Rattle.outline.specs.Solids.{IsBox, Boxes, Spans, Spanning, Hull};
 use crate::OUTLINE;
 use crate::SHAPES;
 use crate::SOLID;
 use crate::SOLIDS;
 use crate::chain;
 use points::COORDINATES;
+use sheet::BOXES;
 
 // No box of an accepted sheet starts or ends farther from its row's origin.
 const FAR: i64 = 20000;
@@ -103,8 +103,7 @@ fn around(a: Extent, b: Extent) -> Extent
 
 // The smallest extent around the boxes of shape s in dimension d.
 fn span(block: &[i64], outline: &[i64; OUTLINE], s: usize, d: usize) -> Extent
-    requires { ⌜ Block (now block) × Chained (now block) (now outline) × Boxes (now block) (now outline) × Boxed (now block) s
-        × (d < dims (now block)) ⌝ }
+    requires { ⌜ Spanning (now block) (now outline) s × (d < dims (now block)) ⌝ }
     ensures { λ r. ⌜ Spans (now (block .entry)) s d (boxes (now (block .entry))) r ⌝ }
 {
     let n = words::boxes_of(block);
@@ -122,7 +121,7 @@ fn span(block: &[i64], outline: &[i64; OUTLINE], s: usize, d: usize) -> Extent
 
 // Puts the hull of shape s.
 fn put_hull(block: &[i64], outline: &mut [i64; OUTLINE], s: usize)
-    requires { ⌜ Block (now block) × Chained (now block) (now outline) × Boxes (now block) (now outline) × Boxed (now block) s ⌝ }
+    requires { ⌜ Spanning (now block) (now outline) s ⌝ }
     ensures { λ _. ⌜ SameTo (solidAt (hullOf s)) (now (outline .entry)) (now (outline .exit)) × Hull (now (block .entry)) (now (outline .exit)) s ⌝ }
 {
     let k = words::dims_of(block);

@@ -2,22 +2,23 @@
 -- bounds are the field's. Assumes nothing.
 use mathlib.Core.Path.{_≡_, refl, sym, ap, _∙_, subst}
 use mathlib.Core.Bool.{Bool, true, false, cond}
-use mathlib.Core.List.{List, [], _∷_}
+use mathlib.Core.List.{List}
 use Prim.Native.Nat.{ℕ, _+_, _≤_, _<_}
 use native.Mathlib.Omega.{arith}
 use lib.IntN.{ℤ, pos}
-use lib.ListN.{length, set, getD-replicate}
+use lib.ListN.{length, set, length-replicate, getD-replicate}
 use lib.Seq.{getD-set-other}
 use lib.Signed.{leZ}
 use Rattle.integers.specs.Integer.{minus, within, Within}
 use Rattle.integers.specs.Below.{allBelow}
-use Rattle.integers.specs.Words.{word, listBelow}
+use Rattle.integers.specs.Words.{word}
 use Rattle.integers.proofs.Ints.{ints}
 use Rattle.integers.proofs.Machine.{from-within}
 use Rattle.points.specs.declared.Area.{Area}
 use Rattle.points.specs.Area.{coordinates, reach, areaWords, maxZ, minZ, Cuts, fieldArea, areaOf}
+use Rattle.points.specs.Ends.{EndsAre}
 use Rattle.points.proofs.Cut.{cuts-none, cuts-same, cuts-zero, cuts-more, cuts-one}
-use Rattle.points.proofs.Ends.{low-length, high-length, ends-set}
+use Rattle.points.proofs.Runs.{low-long, high-long, ends-are, ends-set}
 
 pub record Fills (k n : ℕ) (a : Area) (F : ℕ → List ℤ → Bool) : Type 0 where
   pub cuts : Cuts k fieldArea a (λ p. allBelow n (λ d. F d p))
@@ -66,19 +67,18 @@ module _ {k n : ℕ} {a : Area} (F : ℕ → List ℤ → Bool) (f : Fills k n a
     }
 
 -- ---- an area as a run of words: the field, and one more dimension
-abbrev fieldWords : List ℤ
-fieldWords = minus reach ∷ minus reach ∷ minus reach ∷ minus reach ∷ pos reach ∷ pos reach ∷ pos reach ∷ pos reach ∷ []
-
-field-words : fieldArea ≡ areaOf fieldWords
-unfolding fieldArea areaOf listBelow
-field-words = refl
-
-pub fills-words : {k : ℕ} (F : ℕ → List ℤ → Bool) → Fills k 0 (areaOf fieldWords) F
-fills-words {k} F = subst (λ (a : Area). Fills k 0 a F) field-words (fills-none F)
+pub fills-ends-at : {k : ℕ} {words : List ℤ} (F : ℕ → List ℤ → Bool) → EndsAre (minus reach) (pos reach) words → Fills k 0 (areaOf words) F
+unfolding fieldArea
+fills-ends-at {k} {words} F h =
+    let is : areaOf words ≡ fieldArea = ends-are words fieldArea
+    (length-replicate coordinates (minus reach)) (length-replicate coordinates (pos reach))
+    (λ d l. h false d l ∙ sym (getD-replicate coordinates d (minus reach) (pos 0) l))
+    (λ d l. h true d l ∙ sym (getD-replicate coordinates d (pos reach) (pos 0) l)) in
+    subst (λ (a : Area). Fills k 0 a F) (sym is) (fills-none F)
 
 pub fills-ends : {k n : ℕ} (words : List ℤ) (F : ℕ → List ℤ → Bool) {x y : ℤ} → Fills k n (areaOf words) F → length words ≡ areaWords
     → n < coordinates → n < k → Within reach x → Within reach y → ((p : List ℤ) → within x y (word p n) ≡ F n p)
     → Fills k (n + 1) (areaOf (set (set words n x) (coordinates + n) y)) F
 fills-ends {k} {n} words F {x} {y} f long h l bx by e =
     subst (λ (a : Area). Fills k (n + 1) a F) (ends-set words n long h x y)
-    (fills-set F f bx by h l (low-length words) (high-length words) e)
+    (fills-set F f bx by h l (low-long words) (high-long words) e)

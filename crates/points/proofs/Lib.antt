@@ -1,5 +1,6 @@
 pub mod Sums
 pub mod Areas
 pub mod Cut
-pub mod Ends
+pub mod Runs
 pub mod Fills
+pub mod Takes

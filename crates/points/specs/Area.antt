@@ -5,16 +5,17 @@ use mathlib.Core.Bool.{Bool, cond, _&&_}
 use mathlib.Core.List.{List}
 use Prim.Native.Nat.{ℕ, _+_, _<_}
 use lib.IntN.{ℤ, pos}
-use lib.ListN.{replicate}
+use lib.ListN.{replicate, drop}
 use lib.Signed.{leZ}
 use Rattle.integers.specs.Integer.{minus, within, Within}
 use Rattle.integers.specs.Below.{allBelow}
 use Rattle.integers.specs.Words.{word, listBelow}
+use Rattle.sheet.specs.Layout.{axesMost}
 use Rattle.points.specs.declared.Area.{Area}
 
 -- how many coordinates an array of a point holds; a sheet's points use the first k of them
 abbrev pub coordinates : ℕ
-coordinates = 4
+coordinates = axesMost
 
 -- no bound of an area is farther from 0
 abbrev pub reach : ℕ
@@ -26,6 +27,9 @@ maxZ a b = cond (leZ a b) b a
 
 abbrev pub minZ : ℤ → ℤ → ℤ
 minZ a b = cond (leZ a b) a b
+
+abbrev pub areaBy : List ℤ → List ℤ → Area
+areaBy low high = record { low = low; high = high }
 
 -- z lies in the area in dimension d
 unfoldable pub inAt : Area → ℕ → ℤ → Bool
@@ -39,6 +43,12 @@ inArea k a p = allBelow k (λ d. inAt a d (word p d))
 pub record Small (a : Area) : Type 0 where
   pub lows : (d : ℕ) → Within reach (word (a .low) d)
   pub highs : (d : ℕ) → Within reach (word (a .high) d)
+
+-- what one dimension is cut to
+pub record CutTo (d : ℕ) (low high : ℤ) : Type 0 where
+  pub below : d < coordinates
+  pub low-near : Within reach low
+  pub high-near : Within reach high
 
 -- c is a, cut down to the points that pass a test
 pub record Cuts (k : ℕ) (a c : Area) (F : List ℤ → Bool) : Type 0 where
@@ -55,7 +65,11 @@ fieldArea = record { low = replicate coordinates (minus reach); high = replicate
 
 -- an area as a run of words: its low point, then its high point
 abbrev pub areaWords : ℕ
-areaWords = 8
+areaWords = coordinates + coordinates
 
 unfoldable pub areaOf : List ℤ → Area
-areaOf words = record { low = listBelow coordinates (word words); high = listBelow coordinates (λ d. word words (coordinates + d)) }
+areaOf words = areaBy (listBelow coordinates (word words)) (listBelow coordinates (λ d. word words (coordinates + d)))
+
+-- the area whose words stand from `at` on in a longer run
+abbrev pub areaAt : List ℤ → ℕ → Area
+areaAt words at = areaOf (drop at words)

@@ -1,13 +1,15 @@
 // Points and areas: an array of coordinates by value, and the points from a low to a high one.
+pub mod ends; // ends.rt: an area as a run of words
+
 ghost use mathlib.Core.Path.{_≡_};
 ghost use Prim.Native.Nat.{ℕ, _<_, _≤_};
 ghost use lib.ListN.{length};
-ghost use Rattle.integers.specs.Integer.{within, Within};
+ghost use Rattle.integers.specs.Integer.{within};
 ghost use Rattle.integers.specs.Words.{word};
-ghost use Rattle.points.specs.Area.{coordinates, reach, maxZ, minZ, areaWords, inArea, Cuts, fieldArea, areaOf};
+ghost use Rattle.points.specs.Area.{coordinates, maxZ, minZ, areaBy, inArea, CutTo, Cuts, fieldArea};
 
 // How many coordinates an array of a point holds.
-pub const COORDINATES: usize = 4;
+pub const COORDINATES: usize = sheet::AXES;
 
 // No bound of an area is farther from 0.
 pub const REACH: i64 = 2000000;
@@ -23,6 +25,21 @@ pub fn lesser(a: i64, b: i64) -> i64
     ensures { λ r. ⌜ r ≡ minZ a b ⌝ }
 {
     if a <= b { a } else { b }
+}
+
+// Whether p lies from low to high, in the first k dimensions.
+fn lies_between(low: &[i64], high: &[i64], k: usize, p: [i64; COORDINATES]) -> bool
+    requires { ⌜ (k ≤ length (now low)) × (k ≤ length (now high)) × (k ≤ coordinates) ⌝ }
+    ensures { λ r. ⌜ r ≡ inArea k (areaBy (now (low .entry)) (now (high .entry))) p ⌝ }
+{
+    let mut d = 0;
+    while d < k {
+        if !words::is_within(p[d], low[d], high[d]) {
+            return false;
+        }
+        d += 1;
+    }
+    true
 }
 
 // The points from low to high, both included, in each dimension.
@@ -43,7 +60,7 @@ impl Area {
 
     // Cut to low..=high in dimension d.
     pub fn within(mut self, d: usize, low: i64, high: i64) -> Self
-        requires { ⌜ (d < coordinates) × Within reach low × Within reach high ⌝ }
+        requires { ⌜ CutTo d low high ⌝ }
         ensures { λ r. ⌜ ((k : ℕ) → d < k → Cuts k self r (λ p. within low high (word p d))) ⌝ }
     {
         let a = self.low[d];
@@ -58,27 +75,8 @@ impl Area {
         requires { ⌜ k ≤ coordinates ⌝ }
         ensures { λ r. ⌜ r ≡ inArea k self p ⌝ }
     {
-        let mut d = 0;
-        while d < k {
-            if !words::is_within(p[d], self.low[d], self.high[d]) {
-                return false;
-            }
-            d += 1;
-        }
-        true
+        let low = self.low;
+        let high = self.high;
+        lies_between(&low, &high, k, p)
     }
-}
-
-// ---- an area as a run of words: its low point, then its high point
-
-pub const AREA_WORDS: usize = COORDINATES + COORDINATES;
-
-// The area that such a run is.
-pub fn area_of(ends: &[i64]) -> Area
-    requires { ⌜ length (now ends) ≡ areaWords ⌝ }
-    ensures { λ x. ⌜ x ≡ areaOf (now (ends .entry)) ⌝ }
-{
-    let low = [ends[0], ends[1], ends[2], ends[3]];
-    let high = [ends[4], ends[5], ends[6], ends[7]];
-    Area { low, high }
 }

@@ -3,10 +3,10 @@
 use mathlib.Core.Path.{_≡_}
 use mathlib.Core.Bool.{Bool, _&&_}
 use mathlib.Core.List.{List}
-use Prim.Native.Nat.{ℕ, _≤_}
+use Prim.Native.Nat.{ℕ}
 use lib.IntN.{ℤ, _-ℤ_}
 use Rattle.integers.specs.Integer.{within}
-use Rattle.integers.specs.Below.{_⇒_, allBelow}
+use Rattle.integers.specs.Below.{_⇒_, allBelow, UpTo}
 use Rattle.integers.specs.Words.{word}
 use Rattle.sheet.specs.Layout.{axes, boxes, isOf, isContainment, namesRow, roomLow, roomHigh}
 use Rattle.sheet.specs.Allowed.{boxContained, inRanges, roomsHold}
@@ -42,8 +42,7 @@ pub record Cutting (block o : List ℤ) (r : Place) (s : ℕ) : Type 0 where
 pub record CuttingRow (block o : List ℤ) (i s : ℕ) : Type 0 where
   pub accepted : Block block
   pub outline : Outline block o
-  pub from : 1 ≤ i
-  pub upto : i ≤ 32
+  pub row : UpTo 32 i
   pub shape : Boxed block s
 
 -- the area's points are those of row i's ranges at which every room rule holds for shape s

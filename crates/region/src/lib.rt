@@ -9,10 +9,11 @@ ghost use Rattle.outline.specs.Outline.{Subject};
 ghost use Rattle.points.specs.Area.{Cuts, fieldArea, areaOf};
 ghost use Rattle.region.specs.Rooms.{CutBox};
 use outline::OUTLINE;
-use points::AREA_WORDS;
 use points::Area;
 use points::COORDINATES;
 use points::REACH;
+use points::ends;
+use points::ends::AREA_WORDS;
 use words::Place;
 
 // Row i's ranges as a run of words: the low point, then the high point.
@@ -22,7 +23,7 @@ fn range_ends(block: &[i64], table: &[i64], i: Place) -> [i64; AREA_WORDS]
         (inRanges (now (block .entry)) (now (table .entry)) (i .number)) ⌝ }
 {
     let k = words::axes_of(block);
-    let mut ends = [-REACH, -REACH, -REACH, -REACH, REACH, REACH, REACH, REACH];
+    let mut ends = ends::ends_at(-REACH, REACH);
     let mut d = 0;
     while d < k {
         ends[d] = words::low_of(block, table, i, d);
@@ -42,5 +43,5 @@ pub fn cut_box(block: &[i64], table: &[i64], outline: &[i64; OUTLINE], i: Place,
     let mut ends = range_ends(block, table, i);
     let row = i.number;
     rooms::cut_by_rooms(&mut ends, block, outline, row, s);
-    points::area_of(&ends)
+    ends::area_at(&ends, 0)
 }

@@ -2,8 +2,9 @@
 // other code of the kernel reads a room.
 ghost use mathlib.Core.Path.{_≡_};
 ghost use mathlib.Core.Bool.{_&&_};
-ghost use Prim.Native.Nat.{_<_, _≤_};
+ghost use Prim.Native.Nat.{_<_};
 ghost use lib.ListN.{length};
+ghost use Rattle.integers.specs.Below.{UpTo};
 ghost use Rattle.sheet.specs.Layout.{dims, axes, rules, isContainment, namesRow};
 ghost use Rattle.sheet.specs.Allowed.{roomsHold};
 ghost use Rattle.sheet.specs.Accepted.{Block};
@@ -12,9 +13,7 @@ ghost use Rattle.points.specs.Area.{areaWords, Cuts, areaOf};
 ghost use Rattle.region.specs.Rooms.{sideContained, shapeContained, roomHolds, Cutting, CuttingRow};
 use outline::OUTLINE;
 use outline::solid;
-use points::COORDINATES;
-use points::larger;
-use points::lesser;
+use points::ends;
 use words::Place;
 
 // Cut to the points at which every box of shape s, and so its hull, lies in rule r's room in dimension d.
@@ -33,8 +32,7 @@ fn cut_by_side(
     let hull = solid::extent_of(outline, solid::hull_of(s), d);
     let low = words::room_low(block, r, d) - hull.start;
     let high = words::room_high(block, r, d) - hull.end;
-    ends[d] = larger(ends[d], low);
-    ends[COORDINATES + d] = lesser(ends[COORDINATES + d], high);
+    ends::cut(ends, d, low, high);
 }
 
 // The same in every dimension that the rule names.
@@ -55,7 +53,7 @@ fn cut_by_shape(ends: &mut [i64], block: &[i64], outline: &[i64; OUTLINE], r: Pl
 
 // Whether rule r keeps row i in a room.
 fn is_room_of(block: &[i64], r: Place, i: usize) -> bool
-    requires { ⌜ Block (now block) × RulePlace (now block) r × (1 ≤ i) × (i ≤ 32) ⌝ }
+    requires { ⌜ Block (now block) × RulePlace (now block) r × UpTo 32 i ⌝ }
     ensures { λ x. ⌜ x ≡ (isContainment (now (block .entry)) (r .number)
         && namesRow (now (block .entry)) (r .number) i) ⌝ }
 {

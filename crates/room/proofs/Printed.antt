@@ -12,7 +12,7 @@ use lib.ListN.{length, take, length-append}
 use lib.Seq.{take-all, take-append-seam}
 use Rattle.integers.specs.Below.{valueOr}
 use Rattle.integers.proofs.Ints.{ints}
-use Rattle.sheet.specs.Layout.{rowLen, rows}
+use Rattle.sheet.specs.Layout.{blockMost, tableMost, rowLen, rows}
 use Rattle.sheet.specs.Refusal.{refusal}
 use Rattle.sheet.specs.Settle.{settleOf}
 use Rattle.sheet.specs.Answer.{settleAnswer, tableAfter}
@@ -23,7 +23,7 @@ use Rattle.sheet.specs.declared.Settling.the-variants as S
 use Rattle.listing.proofs.Sizes.{commas-few, rows-few}
 use Rattle.text.specs.Answers.{readingOf}
 use Rattle.text.specs.declared.Reading.{Reading}
-use Rattle.room.specs.Answers.{printedOf}
+use Rattle.room.specs.Answers.{answerMost, printedOf}
 
 -- ---- the answers of settling
 
@@ -35,8 +35,8 @@ printed-answer zero none block table = refl
 printed-answer zero (some t) block table = refl
 printed-answer (suc g) o block table = refl
 
--- 13,000 bytes are enough for any words: a program that lends more prints the answer whole
-pub printed-few : (f : Settling) (block table : List ℤ) → length table ≤ 288 → length (printedOf f block table) ≤ 13000
+-- the room for an answer is enough for any words, in and out of their ranges
+pub printed-few : (f : Settling) (block table : List ℤ) → length table ≤ tableMost → length (printedOf f block table) ≤ answerMost
 unfolding printedOf printedFor ascii rows
 printed-few S.Settled block table h =
     let n = rows (block) table in
@@ -83,20 +83,20 @@ module _ (text : List ℕ) (r : Reading) (e : r ≡ readingOf (reading text)) wh
 
   block-read : blockIn r ≡ sheetRead text .block
   unfolding readingOf reading
-  block-read = ap (λ (x : Reading). blockIn x) e ∙ padded-used 1507 (sheetRead text .block)
+  block-read = ap (λ (x : Reading). blockIn x) e ∙ padded-used blockMost (sheetRead text .block)
 
   table-read : tableIn r ≡ sheetRead text .table
   unfolding readingOf reading
-  table-read = ap (λ (x : Reading). tableIn x) e ∙ padded-used 288 (sheetRead text .table)
+  table-read = ap (λ (x : Reading). tableIn x) e ∙ padded-used tableMost (sheetRead text .table)
 
   -- the lengths in use lie within the two arrays
   pub block-room : r .«block_len» ≤ length (r .block)
   unfolding readingOf reading
-  block-room = subst (λ (x : Reading). x .«block_len» ≤ length (x .block)) (sym e) (padded-room 1507 (sheetRead text .block))
+  block-room = subst (λ (x : Reading). x .«block_len» ≤ length (x .block)) (sym e) (padded-room blockMost (sheetRead text .block))
 
   pub table-room : r .«table_len» ≤ length (r .table)
   unfolding readingOf reading
-  table-room = subst (λ (x : Reading). x .«table_len» ≤ length (x .table)) (sym e) (padded-room 288 (sheetRead text .table))
+  table-room = subst (λ (x : Reading). x .«table_len» ≤ length (x .table)) (sym e) (padded-room tableMost (sheetRead text .table))
 
   -- a refused text: the number that reading found is printed
   pub printed-refused : pos 0 <ℤ r .refusal → (block table : List ℤ) → printedOf (S.Refused (r .refusal)) block table ≡ printed text
@@ -121,11 +121,11 @@ module _ (text : List ℕ) (r : Reading) (e : r ≡ readingOf (reading text)) wh
     none-found : checked ≡ refusalText text
     none-found = ap₂ (λ (b t : List ℤ). refusal (b) t) block-read table-read ∙ accepted-read text none-read ∙ sym none-read
 
-    pub printed-settled : {f : Settling} {t : List ℤ} → f ≡ settleAnswer checked found → t ≡ tableAfter checked (tableIn r) found → length t ≤ 288
-        → printedOf f (blockIn r) (take 288 t) ≡ printed text
+    pub printed-settled : {f : Settling} {t : List ℤ} → f ≡ settleAnswer checked found → t ≡ tableAfter checked (tableIn r) found
+        → length t ≤ tableMost → printedOf f (blockIn r) (take tableMost t) ≡ printed text
     unfolding printed
     printed-settled {f} {t} a b l =
-        ap (printedOf f (blockIn r)) (take-all 288 t l)
+        ap (printedOf f (blockIn r)) (take-all tableMost t l)
         ∙ ap₂ (λ (g : Settling) (u : List ℤ). printedOf g (blockIn r) u) a b
         ∙ printed-answer checked found (blockIn r) (tableIn r)
         ∙ ap (λ (g : ℕ). printedFor g (blockIn r) found) none-found

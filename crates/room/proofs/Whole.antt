@@ -1,4 +1,4 @@
--- 13,000 bytes have room for an answer (`answered`); and a table's words after settling. Assumes nothing.
+-- An answer put into the room for it is whole (`answered`); and a table's words after settling. Assumes nothing.
 use mathlib.Core.Path.{_≡_, sym}
 use mathlib.Core.List.{List, _++_}
 use Prim.Native.Nat.{ℕ, _≤_}
@@ -9,9 +9,10 @@ use lib.Seq.{take-at, length-take-le}
 use Rattle.io.specs.Counts.{Counts}
 use Rattle.stores.specs.Put.{Put}
 use Rattle.stores.proofs.Puts.{put-as, put-length}
+use Rattle.sheet.specs.Layout.{tableMost}
 use Rattle.sheet.specs.Text.{printed}
 use Rattle.sheet.specs.declared.Settling.{Settling}
-use Rattle.room.specs.Answers.{printedOf}
+use Rattle.room.specs.Answers.{answerMost, printedOf}
 use Rattle.room.proofs.Printed.{printed-few}
 
 -- bytes put into a run that has room for them
@@ -21,11 +22,11 @@ put-counts {l} {m} {v} {r} a h =
     let fits : r ≤ length m = omega (arith, a .past) in
     (fits, sym (length-take-le r m fits))
 
-pub answered : (text : List ℕ) {l m : List ℕ} {r : ℕ} (f : Settling) (block table : List ℤ) → Put l 0 (printedOf f block (take 288 table)) r m
-    → length l ≡ 13000 → printedOf f block (take 288 table) ≡ printed text → Put l 0 (printed text) r m × Counts r m
+pub answered : (text : List ℕ) {l m : List ℕ} {r : ℕ} (f : Settling) (block table : List ℤ) → Put l 0 (printedOf f block (take tableMost table)) r m
+    → length l ≡ answerMost → printedOf f block (take tableMost table) ≡ printed text → Put l 0 (printed text) r m × Counts r m
 answered text f block table a h e =
-    let short : length (take 288 table) ≤ 288 = rw length-take (omega arith) in
-    let few = printed-few f block (take 288 table) short in
+    let short : length (take tableMost table) ≤ tableMost = rw length-take (omega arith) in
+    let few = printed-few f block (take tableMost table) short in
     (put-as e a, put-counts a (omega arith))
 
 -- the first n words of an array, u, came back from a loan

@@ -9,9 +9,14 @@ use Rattle.sheet.specs.Text.{ascii, commas, printedFor, printed}
 use Rattle.sheet.specs.declared.Settling.{Settling}
 use Rattle.sheet.specs.declared.Settling.the-variants as S
 
+-- the bytes of room for an answer: proofs/Printed shows that they are enough (`printed-few`)
+abbrev pub answerMost : ℕ
+answerMost = 13000
+
+-- what is printed for a finding of settling, with block and table as settling left them
 unfoldable pub printedOf : Settling → List ℤ → List ℤ → List ℕ
-printedOf S.Settled block table = printedFor 0 (block) (some table)
-printedOf S.NoLayout block table = printedFor 0 (block) none
+printedOf S.Settled block table = printedFor 0 block (some table)
+printedOf S.NoLayout block table = printedFor 0 block none
 printedOf (S.Refused g) block table = ascii "REFUSED" ++ commas (g ∷ [])
 
 -- a text that was read to its end is answered; one that was not is refused with 1, whatever was read of it

@@ -4,23 +4,26 @@ mod input; // input.rt: reading standard input
 ghost use lib.ListN.{take};
 ghost use Rattle.io.specs.Counts.{Counts};
 ghost use Rattle.stores.specs.Put.{Put};
+ghost use Rattle.sheet.specs.Layout.{tableMost};
 ghost use Rattle.sheet.specs.Text.{printed};
 ghost use Rattle.room.specs.Answers.{printedOf, response};
 use libc::STDOUT_FILENO;
 use sheet::Settling;
+use text::TEXT_BYTES;
 
-// One byte more than a text may have: a text that fills it is too long, whatever follows.
-const TEXT: usize = 65537;
+// The bytes of room for a text: one more than it may have. A text that fills them is too long, whatever follows.
+const TEXT: usize = TEXT_BYTES + 1;
 
-// Room for every answer. The longest has 32 rows in 4 dimensions: `SETTLED,32` and its line feed are 11 bytes, and a row at most 86: its
-// number 2, the set 10, eight ends of 8 each, nine commas, a line feed. 11 + 32 * 86 = 2,763. What is proved holds of any 288 words, in
-// and out of range (proofs/Printed.antt, `printed-few`).
+// The bytes of room for an answer (specs/Answers has them as `answerMost`). The longest answer has 32 rows in 4 dimensions: `SETTLED,32`
+// and its line feed are 11 bytes, and a row at most 86: its number 2, the set 10, eight ends of 8 each, nine commas, a line feed.
+// 11 + 32 * 86 = 2,763. What is proved holds of any words, in and out of range (proofs/Printed.antt, `printed-few`).
 const ANSWER: usize = 13000;
 
 // Puts what is printed for a finding of settling at the start of `out`, as far as there is room; the result is the length needed. Block and
-// table are as settling left them: nothing is checked again. The first 288 words of the table are looked at, as no accepted sheet has more.
+// table are as settling left them: nothing is checked again. Words past those of the largest table, which no accepted sheet has, are not
+// looked at.
 fn write_answer(finding: Settling, block: &[i64], table: &[i64], out: &mut [u8]) -> usize
-    ensures { λ r. ⌜ Put (now (out .entry)) 0 (printedOf finding (now (block .entry)) (take 288 (now (table .entry)))) r (now (out .exit)) ⌝ }
+    ensures { λ r. ⌜ Put (now (out .entry)) 0 (printedOf finding (now (block .entry)) (take tableMost (now (table .entry)))) r (now (out .exit)) ⌝ }
 {
     match finding {
         Settling::Settled => listing::put_settled(out, block, table),
@@ -47,7 +50,8 @@ fn answer(text: &[u8], out: &mut [u8; ANSWER]) -> usize
     write_answer(found, &b[..n], &t[..m], out)
 }
 
-// The same, if the text was read to its end; otherwise it is refused with 1.
+// Puts what the program prints at the start of `out`, which has room for it: for a text that was read to its end its answer, and for one that
+// was not its refusal with 1. The other bytes stay. The result is the length.
 fn respond(text: &[u8], whole: bool, out: &mut [u8; ANSWER]) -> usize
     ensures { λ r. ⌜ Put (now (out .entry)) 0 (response whole (now (text .entry))) r (now (out .exit)) ⌝ }
     ensures { λ r. ⌜ Counts r (now (out .exit)) ⌝ }

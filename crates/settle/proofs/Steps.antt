@@ -16,7 +16,7 @@ use Rattle.integers.proofs.Lists.{same-eq, same-refl}
 use Rattle.sheet.specs.Layout.{axes, rules, rows}
 use Rattle.sheet.specs.Narrow.{narrowOf}
 use Rattle.sheet.specs.Settle.{settleOf}
-use Rattle.sheet.proofs.Local.{Clear}
+use Rattle.sheet.proofs.Local.{Harmless}
 use Rattle.sheet.proofs.Demand3.{Good, narrow}
 use Rattle.narrow.specs.Steps.{stepAnswer}
 use Rattle.narrow.specs.declared.Step.{Step}
@@ -121,12 +121,12 @@ module _ {block : List ℤ} {t v w due : List ℤ} {i row : ℕ} {r : Step} (x :
         → Touched n due (λ m. (q : ℕ) → q < rules block → Spared block w row q m) set → OnTheWay block t w (cleared more i)
     turn-moved {more = more} q k y =
         worked-moved block (x .dims) t v due (x .way) i (x .below) w (sym found ∙ moved .0) (cleared more i)
-        (λ m h ne c. let a = y .left m (omega (arith, h, k)) (sym (cleared-other i m q ne) ∙ c) in (a .0, clear-by m (a .1)))
+        (λ m h ne c. let a = y .left m (omega (arith, h, k)) (sym (cleared-other i m q ne) ∙ c) in (a .0, harmless-by m (a .1)))
       where
-        clear-by : (m : ℕ) → ((q : ℕ) → q < rules block → Spared block w row q m) → Clear block w (suc i) (suc m)
-        clear-by m spared =
-            subst (λ (j : ℕ). Clear block w j (suc m)) (x .number ∙ add-one i)
-            (record { clear = λ q s p l kind names-i names held ranged. spared q l kind names-i names .clear s p held ranged })
+        harmless-by : (m : ℕ) → ((q : ℕ) → q < rules block → Spared block w row q m) → Harmless block w (suc i) (suc m)
+        harmless-by m spared =
+            subst (λ (j : ℕ). Harmless block w j (suc m)) (x .number ∙ add-one i)
+            (record { spares = λ q s p l kind names-i names held ranged. spared q l kind names-i names .spares s p held ranged })
 
     pub moved-less : (more : List ℤ) → toGo block (rows block t) w more < toGo block (rows block t) v due
     moved-less more =

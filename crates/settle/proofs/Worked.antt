@@ -18,7 +18,7 @@ use Rattle.fixpoint.proofs.Worklist.{Marks, marks-all, marks-still, marks-again
 use Rattle.sheet.specs.Layout.{axes, rows}
 use Rattle.sheet.specs.Settle.{Settled, Inside, extent, settleOf}
 use Rattle.sheet.proofs.Accepted.{rows-same}
-use Rattle.sheet.proofs.Local.{Clear, narrow-again, narrow-clear}
+use Rattle.sheet.proofs.Local.{Harmless, narrow-again, narrow-harmless}
 use Rattle.sheet.proofs.Demand3.{Good, narrow, laws}
 use Rattle.settle.specs.Todo.{todo}
 
@@ -64,13 +64,13 @@ module _ (block : List ℤ) (dims : 0 < axes block) (t : List ℤ) where
         pub worked-good : Good block t w
         worked-good = laws block dims t .good li (x .way .good) e
 
-        stays : (j : ℕ) → j < n → (j ≡ i → ⊥) → todo due j ≡ false → Clear block w (suc i) (suc j) → narrow block j w ≡ some w
-        stays j lj ne c clear =
-            narrow-clear block v w (x .way .good .table) (worked-good .table) (suc i) (omega arith) (row-of i (x .way .good) li) e
-            (suc j) (omega arith) (row-of j (x .way .good) lj) (λ z. ne (omega arith)) clear (x .marks .clean j lj c)
+        stays : (j : ℕ) → j < n → (j ≡ i → ⊥) → todo due j ≡ false → Harmless block w (suc i) (suc j) → narrow block j w ≡ some w
+        stays j lj ne c harmless =
+            narrow-harmless block v w (x .way .good .table) (worked-good .table) (suc i) (omega arith) (row-of i (x .way .good) li) e
+            (suc j) (omega arith) (row-of j (x .way .good) lj) (λ z. ne (omega arith)) harmless (x .marks .clean j lj c)
 
         pub worked-moved : (due' : List ℤ)
-            → ((m : ℕ) → m < n → (m ≡ i → ⊥) → todo due' m ≡ false → (todo due m ≡ false) × Clear block w (suc i) (suc m))
+            → ((m : ℕ) → m < n → (m ≡ i → ⊥) → todo due' m ≡ false → (todo due m ≡ false) × Harmless block w (suc i) (suc m))
             → OnTheWay block t w due'
         worked-moved due' spared =
             record {

@@ -9,17 +9,13 @@ use lib.IntN.{ℤ, pos}
 use lib.ListN.{length}
 use Rattle.integers.specs.Integer.{eqZ}
 use Rattle.integers.specs.Words.{word}
-use Rattle.sheet.specs.Layout.{isNonOverlap, namesRow, rows}
+use Rattle.sheet.specs.Layout.{rowsMost, isNonOverlap, namesRow, rows}
 use Rattle.sheet.specs.Settle.{settleOf}
 use Rattle.sheet.specs.Answer.{settleAnswer, tableAfter}
 use Rattle.sheet.specs.declared.Settling.{Settling}
 use Rattle.words.specs.declared.Place.{Place}
 use Rattle.outline.specs.Outline.{OnRow}
-use Rattle.nearby.specs.Due.{Unreached}
-
--- the most rows of a table
-abbrev pub rowsMost : ℕ
-rowsMost = 32
+use Rattle.nearby.specs.Due.{HarmlessBy}
 
 -- row m + 1 is to be narrowed
 unfoldable pub todo : List ℤ → ℕ → Bool
@@ -44,7 +40,7 @@ module _ (block : List ℤ) where
 
   -- if rule r keeps rows i and m + 1 apart, row i forbids row m + 1 no point of its ranges by it
   abbrev pub Spared : List ℤ → ℕ → ℕ → ℕ → Type 0
-  Spared t i r m = isNonOverlap block r ≡ true → namesRow block r i ≡ true → namesRow block r (suc m) ≡ true → Unreached block t r i (suc m)
+  Spared t i r m = isNonOverlap block r ≡ true → namesRow block r i ≡ true → namesRow block r (suc m) ≡ true → HarmlessBy block t r i (suc m)
 
   -- what the loop answers on t, and leaves: true, and the table that settling finds; false where it finds none
   pub record FoundBy (t : List ℤ) (r : Bool) (v : List ℤ) : Type 0 where

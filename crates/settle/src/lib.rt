@@ -7,13 +7,13 @@ ghost use Prim.Native.Nat.{ℕ, suc, _+_, _<_, _≤_};
 ghost use lib.ListN.{length};
 ghost use Rattle.integers.specs.Bits.{bit};
 ghost use Rattle.integers.specs.Words.{word};
-ghost use Rattle.sheet.specs.Layout.{rules, rows, namesRow};
+ghost use Rattle.sheet.specs.Layout.{rowsMost, rules, rows, namesRow};
 ghost use Rattle.sheet.specs.Accepted.{Block, Table};
 ghost use Rattle.words.specs.Places.{RulePlace};
 ghost use Rattle.outline.specs.Outline.{Outline, OnRow};
 ghost use Rattle.outline.specs.Places.{rulesAt};
-ghost use Rattle.nearby.specs.Due.{Unreached};
-ghost use Rattle.settle.specs.Todo.{rowsMost, Next, Touching, Spared, Touched, FoundBy, Answered};
+ghost use Rattle.nearby.specs.Due.{HarmlessBy};
+ghost use Rattle.settle.specs.Todo.{Next, Touching, Spared, Touched, FoundBy, Answered};
 ghost use Rattle.settle.specs.Demand.{Promise};
 use narrow::Step;
 use nearby::due;
@@ -24,13 +24,10 @@ use nearby::suspect::FEW_WORDS;
 use nearby::suspect::MANY_WORDS;
 use outline::OUTLINE;
 use outline::rules;
+use sheet::ROWS;
 use sheet::Settling;
+use sheet::TABLE_WORDS;
 use words::Place;
-
-// The most rows of a table, and the most words.
-pub const ROWS: usize = 32;
-
-pub const WORDS: usize = 288;
 
 // The number, or where it is not below n the number less n.
 fn wrapped(m: usize, n: usize) -> usize
@@ -57,7 +54,7 @@ fn next_row(due: &[i64], n: usize, at: usize) -> usize
 }
 
 // Whether rule r names row m + 1, and row i can forbid it some point of its ranges by that rule.
-fn reaches(
+fn threatens(
     block: &[i64],
     table: &[i64],
     outline: &[i64; OUTLINE],
@@ -67,16 +64,16 @@ fn reaches(
 ) -> bool
     requires { ⌜ OnRow (now block) (now table) (now outline) i × RulePlace (now block) r × (m < rows (now block) (now table)) ⌝ }
     ensures { λ x. ⌜ (x ≡ false → namesRow (now (block .entry)) (r .number) (suc m) ≡ true
-        → Unreached (now (block .entry)) (now (table .entry)) (r .number) (i .number) (suc m)) ⌝ }
+        → HarmlessBy (now (block .entry)) (now (table .entry)) (r .number) (i .number) (suc m)) ⌝ }
 {
     if !words::names_row(block, r, m + 1) {
         return false;
     }
     let row = words::row_place(block, table, m + 1);
-    due::reaches_row(block, table, outline, r, i, row)
+    due::threatens_row(block, table, outline, r, i, row)
 }
 
-// The rows that row i reaches by rule r are to be narrowed too.
+// The rows that row i threatens by rule r are to be narrowed too.
 fn touched_by(
     block: &[i64],
     table: &[i64],
@@ -93,7 +90,7 @@ fn touched_by(
     let mut m = 0;
     while m < n {
         if due[m] != 1 {
-            if reaches(block, table, outline, i, r, m) {
+            if threatens(block, table, outline, i, r, m) {
                 due[m] = 1;
             }
         }
@@ -126,7 +123,7 @@ fn touched_if(
     touched_by(block, table, outline, due, i, n, rule);
 }
 
-// The rows that row i, which moved, reaches by some rule are to be narrowed too: no further than the last rule that counts.
+// The rows that row i, which moved, threatens by some rule are to be narrowed too: no further than the last rule that counts.
 fn touched(
     block: &[i64],
     table: &[i64],
@@ -209,7 +206,7 @@ fn settle_in(
     ensures { λ r. ⌜ Answered (now (block .entry)) (now (table .entry)) r (now (table .exit)) ⌝ }
 {
     let n = table.len();
-    let mut work = [0i64; WORDS];
+    let mut work = [0i64; TABLE_WORDS];
     copy(&mut work[..n], table);
     if !settle_rows(block, &mut work[..n], outline, suspects) {
         return Settling::NoLayout;

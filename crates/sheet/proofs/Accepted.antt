@@ -4,8 +4,8 @@ use mathlib.Core.Path.{_≡_, refl, sym, ap, ap₂, _∙_, subst}
 use mathlib.Core.Logic.{⊎-elim}
 use mathlib.Core.Bool.{Bool, true, false, not, cond, _&&_, _||_}
 use mathlib.Core.List.{List}
-use Prim.Native.Nat.{ℕ, zero, suc, _-_, _*_, _/_, _^_, _≤_, _<_}
-use native.Mathlib.Nat.{le-trans}
+use Prim.Native.Nat.{ℕ, zero, suc, _+_, _-_, _*_, _/_, _^_, _≤_, _<_}
+use native.Mathlib.Nat.{le-trans, mul-le-mul}
 use native.Mathlib.Omega.{arith}
 use lib.Dec.{ltb}
 use lib.Pow.{pow-mono}
@@ -22,7 +22,7 @@ use Rattle.integers.proofs.Ints.{ints, eqZ-eq, le-of-test, test-of-le, within-t
 use Rattle.integers.proofs.Machine.{within-test, within-pos, within-by, from-within}
 use Rattle.integers.proofs.Ranges.{nat-from}
 use Rattle.integers.proofs.Sets.{small-set, member-ge-1}
-use Rattle.sheet.specs.Layout.{dims, axes, boxes, rules, rowLen, shapeOf, offset, size, isOf, validBox, kind}
+use Rattle.sheet.specs.Layout.{axesMost, tableMost, dims, axes, boxes, rules, rowLen, shapeOf, offset, size, isOf, validBox, kind}
 use Rattle.sheet.specs.Layout.{isNonOverlap, isContainment, dimSet, rowSet, roomLow, roomHigh, namesDim, validEnds}
 use Rattle.sheet.specs.Layout.{validRule, rows, shapeSet, low, high, hasShape, validRow}
 use Rattle.sheet.specs.Refusal.{_when_, _else_, badHead, badCounts, badBlockLength, badTableLength, badBox, badRule, badRow, refusal}
@@ -319,3 +319,15 @@ module _ (block : List ℤ) where
         rule = ap (λ (n : ℕ). not (allBelow (rules block) (validRule block n))) (rows-same u t e) ∙ p .rule;
         row = rows-valid u w;
       })
+
+-- a row's set is a set
+pub set-count : {block t : List ℤ} {i : ℕ} → Table block t → 1 ≤ i → i ≤ rows block t → Count (shapeSet block t i)
+set-count {i = i} h f u = record { from = omega (ints, h .sets-from i f u); upto = h .sets-upto i f u }
+
+-- a table of the stated length has no more words than the largest
+pub table-short : {block t : List ℤ} → Head block → Rows block t → length t ≤ tableMost
+unfolding rowLen
+table-short h r = omega (arith, r .long, mul-le-mul (r .few-rows) (row-short (h .few-axes)))
+  where
+    row-short : {k : ℕ} → k ≤ axesMost → 1 + 2 * k ≤ 1 + 2 * axesMost
+    row-short h = omega arith

@@ -5,7 +5,7 @@ use mathlib.Core.List.{List}
 use Prim.Native.Nat.{ℕ, _≤_}
 use lib.IntN.{ℤ}
 use Rattle.integers.specs.Integer.{eqZ}
-use Rattle.integers.specs.Below.{allBelow, anyUpTo}
+use Rattle.integers.specs.Below.{allBelow, anyUpTo, UpTo}
 use Rattle.integers.proofs.Booleans.{and-true}
 use Rattle.integers.proofs.Below.{all-at, upto-at, some-upto}
 use Rattle.integers.proofs.Ints.{eqZ-eq}
@@ -16,9 +16,8 @@ use Rattle.sheet.proofs.Exchange.{Still}
 
 module _ (block : List ℤ) (table : List ℤ) where
   -- i is the number of a row
-  pub record Row (i : ℕ) : Type 0 where
-    pub from : 1 ≤ i
-    pub upto : i ≤ rows block table
+  abbrev pub Row : ℕ → Type 0
+  Row i = UpTo (rows block table) i
 
   module _ (all-fixed : fixed block table ≡ true) where
     abbrev one-number : ℕ → ℕ → Bool

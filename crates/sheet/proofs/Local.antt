@@ -1,6 +1,6 @@
 -- Which rows notice that row i was narrowed. What is forbidden to a row depends on the words of the other rows, and narrowing row i
 -- changes those of row i alone. So narrowing row i again right away moves nothing (`narrow-again`), and a row that did not move still
--- does not, if row i now forbids it no point of its ranges (`narrow-clear`). Assumes nothing.
+-- does not, if row i now forbids it no point of its ranges (`narrow-harmless`). Assumes nothing.
 use mathlib.Core.Path.{_≡_, refl, sym, ap, _∙_, subst, subst⁻¹}
 use mathlib.Core.Logic.{⊎-elim}
 use mathlib.Core.Bool.{true, false}
@@ -70,8 +70,8 @@ module _ (block : List ℤ) where
         })
 
   -- row i forbids row j no point of its ranges
-  pub record Clear (t : List ℤ) (i j : ℕ) : Type 0 where
-    pub clear : (r s : ℕ) (p : List ℤ) → r < rules block → isNonOverlap block r ≡ true → namesRow block r i ≡ true → namesRow block r j ≡ true
+  pub record Harmless (t : List ℤ) (i j : ℕ) : Type 0 where
+    pub spares : (r s : ℕ) (p : List ℤ) → r < rules block → isNonOverlap block r ≡ true → namesRow block r i ≡ true → namesRow block r j ≡ true
         → hasShape block t j s ≡ true → inRanges block t j p ≡ true → setForbids block t r p j s i ≡ false
 
   -- ---- row i narrowed
@@ -86,7 +86,7 @@ module _ (block : List ℤ) where
         }
 
     -- row j, whose words in v are those that narrowing it in t finds: it is row i, or row i forbids it nothing
-    module _ (j : ℕ) (w : List ℤ) (m : Narrowed block t j w) (same : SameRow v w j) (clear : (j ≡ i → ⊥) → Clear v i j) where
+    module _ (j : ℕ) (w : List ℤ) (m : Narrowed block t j w) (same : SameRow v w j) (harmless : (j ≡ i → ⊥) → Harmless v i j) where
       was-forbidden : (s : ℕ) (p : List ℤ) → hasShape block v j s ≡ true → inRanges block v j p ≡ true
           → forbidden block v j s p ≡ true → forbidden block t j s p ≡ true
       was-forbidden s p held ranged e =
@@ -110,7 +110,7 @@ module _ (block : List ℤ) where
           by-row-i q =
               let names-i = subst (λ (x : ℕ). namesRow block (f .rule) x ≡ true) q (f .names-other) in
               clash (subst (λ (x : ℕ). setForbids block v (f .rule) p j s x ≡ true) q (f .set))
-              (clear (λ z. f .another (z ∙ sym q)) .clear (f .rule) s p (f .rule-below) (f .kind) names-i (f .names) held ranged)
+              (harmless (λ z. f .another (z ∙ sym q)) .spares (f .rule) s p (f .rule-below) (f .kind) names-i (f .names) held ranged)
 
       shape-same : (s : ℕ) → hasShape block v j s ≡ hasShape block w j s
       unfolding hasShape
@@ -162,19 +162,19 @@ module _ (block : List ℤ) where
   module _ (t v : List ℤ) (table : Table block t) (after : Table block v) (i : ℕ) (from : 1 ≤ i) (upto : i ≤ rows block t)
       (e : narrowOf block t i ≡ some v) where
     unmoved : (j : ℕ) → 1 ≤ j → j ≤ rows block t → (w : List ℤ) → narrowOf block t j ≡ some w → (Narrowed block t i v → SameRow v w j)
-        → ((j ≡ i → ⊥) → Clear v i j) → narrowOf block v j ≡ some v
-    unmoved j h k w g same clear =
+        → ((j ≡ i → ⊥) → Harmless v i j) → narrowOf block v j ≡ some v
+    unmoved j h k w g same harmless =
         by (subst (λ (o : Option (List ℤ)). Narrows block t i o) e (narrow-finds block t table i from upto))
         (subst (λ (o : Option (List ℤ)). Narrows block t j o) g (narrow-finds block t table j h k))
       where
         by : Narrows block t i (some v) → Narrows block t j (some w) → narrowOf block v j ≡ some v
         by (narrowed p st n) (narrowed q su m) =
             narrow-is block v j h after (subst (λ (x : ℕ). j ≤ x) (sym (rows-same block v t (n .as-long))) k) (some v)
-            (narrowed q (stands-still t v i from n j w m (same n) clear q su) (stays t v i from n j w m (same n) clear))
+            (narrowed q (stands-still t v i from n j w m (same n) harmless q su) (stays t v i from n j w m (same n) harmless))
 
     pub narrow-again : narrowOf block v i ≡ some v
     narrow-again =
         unmoved i from upto v e (λ n. record { set = refl; lows = λ d l. refl; highs = λ d l. refl }) (λ ne. absurd (ne refl))
 
-    pub narrow-clear : (j : ℕ) → 1 ≤ j → j ≤ rows block t → (j ≡ i → ⊥) → Clear v i j → narrowOf block t j ≡ some t → narrowOf block v j ≡ some v
-    narrow-clear j h k ne clear g = unmoved j h k t g (λ n. kept t v i from n j h ne) (λ z. clear)
+    pub narrow-harmless : (j : ℕ) → 1 ≤ j → j ≤ rows block t → (j ≡ i → ⊥) → Harmless v i j → narrowOf block t j ≡ some t → narrowOf block v j ≡ some v
+    narrow-harmless j h k ne harmless g = unmoved j h k t g (λ n. kept t v i from n j h ne) (λ z. harmless)

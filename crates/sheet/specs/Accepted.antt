@@ -9,7 +9,7 @@ use lib.IntN.{ℤ, pos}
 use lib.Signed.{_≤ℤ_}
 use Rattle.integers.specs.Integer.{nat, Within}
 use Rattle.integers.specs.Words.{word}
-use Rattle.sheet.specs.Layout.{dims, axes, boxes, rules, blockLen, rowLen, shapeOf, offset, size, isOf, kind, dimSet}
+use Rattle.sheet.specs.Layout.{axesMost, rowsMost, dims, axes, boxes, rules, blockLen, rowLen, shapeOf, offset, size, isOf, kind, dimSet}
 use Rattle.sheet.specs.Layout.{rowSet, roomLow, roomHigh, rows, shapeSet, low, high, hasShape}
 
 -- a word that is a count, an index or a set
@@ -22,7 +22,7 @@ pub record Head (block : List ℤ) : Type 0 where
   pub some-dims : 1 ≤ dims block
   pub few-dims : dims block ≤ 4
   pub some-axes : 1 ≤ axes block
-  pub few-axes : axes block ≤ 4
+  pub few-axes : axes block ≤ axesMost
   pub some-boxes : 1 ≤ boxes block
   pub few-boxes : boxes block ≤ 128
   pub few-rules : rules block ≤ 32
@@ -48,7 +48,7 @@ pub record Block (block : List ℤ) : Type 0 where
 pub record Rows (block : List ℤ) (table : List ℤ) : Type 0 where
   pub long : length table ≡ rows block table * rowLen block
   pub some-rows : 1 ≤ rows block table
-  pub few-rows : rows block table ≤ 32
+  pub few-rows : rows block table ≤ rowsMost
 
 -- a box of shape s
 pub record Boxed (block : List ℤ) (s : ℕ) : Type 0 where

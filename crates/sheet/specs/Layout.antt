@@ -13,6 +13,23 @@ use Rattle.integers.specs.Below.{_⇒_, allBelow, anyBelow, allUpTo}
 use Rattle.integers.specs.Bits.{bit, holds, holdsOnly}
 use Rattle.integers.specs.Words.{word}
 
+-- ---- the limits that code makes room by: the most axes, since a point is four numbers, and rows; the most words of a record (a rule of
+-- four dimensions), of a block and of a table
+abbrev pub axesMost : ℕ
+axesMost = 4
+
+abbrev pub rowsMost : ℕ
+rowsMost = 32
+
+abbrev pub recordMost : ℕ
+recordMost = 11
+
+abbrev pub blockMost : ℕ
+blockMost = 1507
+
+abbrev pub tableMost : ℕ
+tableMost = 288
+
 module _ (block : List ℤ) where
   abbrev blockWord : ℕ → ℤ
   blockWord at = word block at

@@ -22,22 +22,22 @@ use Rattle.sheet.specs.Refusal.{refusal, refusalPlacement}
 
 -- ---- what is asked of a sheet, and the answer
 
-pub data Asked : Type 0 where
+pub data Question : Type 0 where
   -- the least coordinate of row i with shape s in dimension 0
-  hasLeast : (i s : ℕ) → Option ℤ → Asked
+  hasLeast : (i s : ℕ) → Option ℤ → Question
   -- what box c of row j forbids to row i with shape s, whose box is b, in dimension 0 under rule 0: from .. to ..
-  forbids : (i s b j c : ℕ) → ℤ → ℤ → Asked
+  forbids : (i s b j c : ℕ) → ℤ → ℤ → Question
   -- narrowing row i
-  narrows : (i : ℕ) → Option (List ℤ) → Asked
-  settles : Option (List ℤ) → Asked
+  narrows : (i : ℕ) → Option (List ℤ) → Question
+  settles : Option (List ℤ) → Question
   -- how many placements lie inside the table, and how many of them are good
-  hasLayouts : (placements layouts : ℕ) → Asked
-  isGood : Bool → Asked
+  hasLayouts : (placements layouts : ℕ) → Question
+  isGood : Bool → Question
 
 pub record Case : Type 0 where
   pub block : List ℤ
   pub table : List ℤ
-  pub asked : Asked
+  pub asked : Question
 
 unfoldable pub sameTable : Option (List ℤ) → Option (List ℤ) → Bool
 sameTable none none = true
@@ -79,7 +79,7 @@ countRows len (suc n) ws f =
 unfoldable pub placementsBy : List ℤ → List ℤ → (List ℤ → Bool) → ℕ
 placementsBy block table test = countRows (rowLen block) (rows block table) table (λ p. cond (test p) 1 0)
 
-unfoldable pub answered : List ℤ → List ℤ → Asked → Bool
+unfoldable pub answered : List ℤ → List ℤ → Question → Bool
 answered block table (hasLeast i s z) = sameNumber (leastOf block table i s 0) z
 answered block table (forbids i s b j c from to) =
     eqZ (forbidFrom block table 0 i b j c 0) from && eqZ (forbidTo block table 0 i b j c 0) to && forbidsOnly block table i s from to
@@ -157,7 +157,7 @@ catalogue =
 unfoldable pub placed : ℕ → ℕ → List ℤ
 placed x y = row2 1 1 1 2 2 ++ row2 16 2 2 1 1 ++ row2 128 x x y y
 
-abbrev case : List ℤ → List ℤ → Asked → Case
+abbrev case : List ℤ → List ℤ → Question → Case
 case b t a = record { block = b; table = t; asked = a }
 
 -- ---- the positions

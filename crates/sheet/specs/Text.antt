@@ -10,7 +10,7 @@ use lib.Dec.{eqb, leb, ltb}
 use lib.ListN.{length, take, drop, replicate}
 use lib.IntN.{ℤ, pos, negsuc}
 use Rattle.integers.specs.Integer.{minus}
-use Rattle.sheet.specs.Layout.{rowLen, rows}
+use Rattle.sheet.specs.Layout.{blockMost, tableMost, rowLen, rows}
 use Rattle.sheet.specs.Settle.{settleOf}
 use Rattle.sheet.specs.Refusal.{refusal}
 
@@ -146,7 +146,7 @@ sheetRead text = sheetUnless (refusalText text) (readText text)
 unfoldable pub padded : ℕ → List ℤ → List ℤ
 padded n ws = ws ++ replicate (n - length ws) (pos 0)
 
--- 1,507 and 288 words, with the lengths in use
+-- block and table, zeros past the words that are read, with the lengths in use
 pub record Reading : Type 0 where
   pub refused : ℕ
   pub block : List ℤ
@@ -158,9 +158,9 @@ unfoldable pub reading : List ℕ → Reading
 reading text =
     record {
       refused = refusalText text;
-      block = padded 1507 (sheetRead text .block);
+      block = padded blockMost (sheetRead text .block);
       blockUsed = length (sheetRead text .block);
-      table = padded 288 (sheetRead text .table);
+      table = padded tableMost (sheetRead text .table);
       tableUsed = length (sheetRead text .table);
     }
 

@@ -1,5 +1,27 @@
-// The meaning of a room sheet (document 01): the definitions are in specs/, their theorems in proofs/, and here are the answers
-// of the kernel's operations. specs/Answer.antt says which answer stands for which finding; a refusal holds its number.
+// The meaning of a room sheet (document 01): the definitions are in specs/, their theorems in proofs/, and here are the limits of a sheet
+// and the answers of the kernel's operations. specs/Answer.antt says which answer stands for which finding; a refusal holds its number.
+
+// ---- the limits that code makes room by
+
+// The most dimensions, boxes, rules and rows. A row has a range for each axis, and a point a coordinate.
+pub const DIMS: usize = 4;
+
+pub const BOXES: usize = 128;
+
+pub const RULES: usize = 32;
+
+pub const ROWS: usize = 32;
+
+pub const AXES: usize = DIMS;
+
+// The most words of a record, which a rule has, of a block and of a table (specs/Layout has them in figures).
+pub const RECORD_WORDS: usize = 3 + 2 * DIMS;
+
+pub const BLOCK_WORDS: usize = 3 + BOXES * (1 + 2 * DIMS) + RULES * RECORD_WORDS;
+
+pub const TABLE_WORDS: usize = ROWS * (1 + 2 * AXES);
+
+// ---- answers
 
 // Whether a row with a shape is allowed at a point.
 pub enum PointTest {

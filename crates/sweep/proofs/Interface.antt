@@ -1,5 +1,5 @@
 -- What a caller of the sweep cites: `sweep-theorem` for the rotation of dimension d, the least coordinate by that dimension's
--- name, and that the candidate's words are near. The caller's loop has `Reached` (start, onward) as its invariant and `pointsAfter`
+-- name, and that the candidate's words are near. The caller's loop has `Visited` (start, onward) as its invariant and `pointsAfter`
 -- as its measure; for the greatest coordinate the boxes are turned (`TurnedBox`, proofs/Mirror.antt).
 -- Assumes nothing.
 use mathlib.Core.Path.{_≡_, subst}
@@ -18,7 +18,7 @@ use Rattle.points.specs.Area.{coordinates}
 use Rattle.sweep.specs.declared.Sweep.{Sweep}
 use Rattle.sweep.specs.Point.{InBox, Near, turn, turned}
 use Rattle.sweep.specs.Rotation.{rotation}
-use Rattle.sweep.specs.Theorem.{Range, Reached, SweepTheorem}
+use Rattle.sweep.specs.Theorem.{Range, Visited, SweepTheorem}
 use Rattle.sweep.proofs.Rotations.{rotation-order}
 pub use Rattle.sweep.proofs.Rotations.{rotation-first}
 use Rattle.sweep.proofs.Mirror.{word-turned, turn-word}
@@ -30,7 +30,7 @@ pub rotation-range : {k d : ℕ} {low high : List ℤ} → k ≤ coordinates →
 rotation-range a h l g w = record { dims = omega arith; orders = rotation-order a h; low-long = l; high-long = g; filled = w }
 
 module _ {k : ℕ} {order : ℕ → ℕ} {low high : List ℤ} {Bad : List ℤ → Type 0} {s : Sweep}
-    (t : SweepTheorem k order low high Bad) (r : Reached k order low high Bad s) (l : s .live ≡ true) where
+    (t : SweepTheorem k order low high Bad) (r : Visited k order low high Bad s) (l : s .live ≡ true) where
   -- the order's first dimension, by name
   pub least-in : {d : ℕ} → order 0 ≡ d → (p : List ℤ) → InBox k low high p → (Bad p → ⊥) → word (s .candidate) d ≤ℤ word p d
   least-in e p b n = subst (λ (i : ℕ). word (s .candidate) i ≤ℤ word p i) e (t .least r l p b n)

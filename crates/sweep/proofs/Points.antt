@@ -20,14 +20,14 @@ use Rattle.integers.specs.Words.{word}
 use Rattle.integers.proofs.Ints.{ints}
 use Rattle.integers.proofs.Machine.{within-weaken, within-sum, within-fits}
 use Rattle.points.specs.Area.{minZ}
-use Rattle.sweep.specs.Point.{reach, Near, next, nexts, lessers}
+use Rattle.sweep.specs.Point.{limit, Near, next, nexts, lessers}
 
 -- a point of small words is near
-pub near-of : {n : ℕ} {p : List ℤ} → n ≤ reach → ((i : ℕ) → Within n (word p i)) → Near p
+pub near-of : {n : ℕ} {p : List ℤ} → n ≤ limit → ((i : ℕ) → Within n (word p i)) → Near p
 near-of h w = record { near = λ i. within-weaken h (w i) }
 
 -- a near word and a small number more fit an i64
-pub near-fits : {z : ℤ} → Within reach z → (n : ℕ) → T (ltb (reach + n) (2 ^ 63)) → SFits w64 (toZ w64 (ofZ w64 z) +ℤ pos n)
+pub near-fits : {z : ℤ} → Within limit z → (n : ℕ) → T (ltb (limit + n) (2 ^ 63)) → SFits w64 (toZ w64 (ofZ w64 z) +ℤ pos n)
 near-fits h n t =
     let w : Within n (pos n) = omega ints in
     rw (toZ-ofZ (within-fits h tt)) (within-fits (within-sum h w) t)

@@ -15,7 +15,7 @@ use Rattle.integers.proofs.Ints.{ints}
 use Rattle.sweep.specs.Point.{InBox, next}
 use Rattle.sweep.specs.declared.Sweep.{Sweep}
 use Rattle.sweep.specs.Moves.{begun, jumpedPast}
-use Rattle.sweep.specs.Theorem.{Range, Before, pointsAfter, Step, Reached, start, onward, SweepTheorem}
+use Rattle.sweep.specs.Theorem.{Range, Before, pointsAfter, Step, Visited, start, onward, SweepTheorem}
 use Rattle.sweep.proofs.Points.{lesser-below}
 use Rattle.sweep.proofs.Adjust.{advance-others}
 use Rattle.sweep.proofs.Cover.{at, cleared-jump, before-covered}
@@ -50,49 +50,49 @@ module _ {k : ℕ} {order : ℕ → ℕ} {low high : List ℤ} (range : Range k 
         (⊎-elim (λ f. inl (record { live = f .live; sweeping = f .sweeping; anew = f .anew; falls = f .falls })) inr
         (adjust k order low high Bad range k (omega arith) (jumpedPast s (u .last)) going-jumped))
 
-  -- ---- the states that are reached
-  reached-either : {s : Sweep} → Reached k order low high Bad s
+  -- ---- the states that are visited
+  visited-either : {s : Sweep} → Visited k order low high Bad s
       → (s .live ≡ true → Sweeping k order low high Bad s) × (s .live ≡ false → (p : List ℤ) → InBox k low high p → Bad p)
-  reached-either (start e) =
+  visited-either (start e) =
       (λ l. subst (Sweeping k order low high Bad) (sym e) sweeping-begun, λ l. clash (ap (λ (s : Sweep). s .live) e) l)
-  reached-either (onward r u) =
+  visited-either (onward r u) =
       ⊎-elim
       (λ f. (λ l. f .sweeping, λ l. clash (f .live) l))
       (λ f. (λ l. clash l (f .dead), λ l. f .bad))
-      (step-found (reached-either r .0 (u .live)) u)
+      (step-found (visited-either r .0 (u .live)) u)
 
-  reached-passed : {s : Sweep} → Reached k order low high Bad s → s .live ≡ true
+  visited-passed : {s : Sweep} → Visited k order low high Bad s → s .live ≡ true
       → (p : List ℤ) → InBox k low high p → Before k order p (s .candidate) → Bad p
-  reached-passed r l p b w =
-      let x = reached-either r .0 l in
+  visited-passed r l p b w =
+      let x = visited-either r .0 l in
       x .covered p b (before-covered (λ m h. x .state .placed (order m) (range .orders .below m h) .short) w)
 
-  reached-least : {s : Sweep} → Reached k order low high Bad s → s .live ≡ true
+  visited-least : {s : Sweep} → Visited k order low high Bad s → s .live ≡ true
       → (p : List ℤ) → InBox k low high p → (Bad p → ⊥) → at order (s .candidate) 0 ≤ℤ at order p 0
-  reached-least {s} r l p b n =
+  visited-least {s} r l p b n =
       ⊎-elim
       (λ e. omega ints)
-      (λ e. absurd (n (reached-passed r l p b (record { at = 0; place = range .dims; same = λ m h. absurd (omega arith); less = omega ints }))))
+      (λ e. absurd (n (visited-passed r l p b (record { at = 0; place = range .dims; same = λ m h. absurd (omega arith); less = omega ints }))))
       (decide (leZ (at order (s .candidate) 0) (at order p 0)))
 
-  reached-falls : {s t : Sweep} → Reached k order low high Bad s → Step k order low high Bad s t → t .live ≡ true
+  visited-falls : {s t : Sweep} → Visited k order low high Bad s → Step k order low high Bad s t → t .live ≡ true
       → pointsAfter order low high k (t .candidate) < pointsAfter order low high k (s .candidate)
-  reached-falls r u l = ⊎-elim (λ f. f .falls) (λ f. clash l (f .dead)) (step-found (reached-either r .0 (u .live)) u)
+  visited-falls r u l = ⊎-elim (λ f. f .falls) (λ f. clash l (f .dead)) (step-found (visited-either r .0 (u .live)) u)
 
-  reached-others : {s : Sweep} → Reached k order low high Bad s → (i : ℕ) → k ≤ i → word (s .candidate) i ≡ word low i
+  visited-others : {s : Sweep} → Visited k order low high Bad s → (i : ℕ) → k ≤ i → word (s .candidate) i ≡ word low i
   unfolding jumpedPast
-  reached-others (start e) i h = ap (λ (s : Sweep). word (s .candidate) i) e
-  reached-others (onward r u) i h =
+  visited-others (start e) i h = ap (λ (s : Sweep). word (s .candidate) i) e
+  visited-others (onward r u) i h =
       ap (λ (s : Sweep). word (s .candidate) i) (u .next)
       ∙ advance-others order low high k k (range .orders .below) (jumpedPast _ (u .last)) i h
-      ∙ reached-others r i h
+      ∙ visited-others r i h
 
   pub sweep-theorem : SweepTheorem k order low high Bad
   sweep-theorem = record {
-    inside = λ r l. state-inside (reached-either r .0 l .state);
-    passed = reached-passed;
-    least = reached-least;
-    exhausted = λ r l. reached-either r .1 l;
-    falls = reached-falls;
-    others = reached-others;
+    inside = λ r l. state-inside (visited-either r .0 l .state);
+    passed = visited-passed;
+    least = visited-least;
+    exhausted = λ r l. visited-either r .1 l;
+    falls = visited-falls;
+    others = visited-others;
   }

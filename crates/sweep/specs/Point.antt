@@ -16,12 +16,12 @@ pub record InBox (k : ℕ) (low high p : List ℤ) : Type 0 where
   pub upto : (i : ℕ) → i < k → word p i ≤ℤ word high i
 
 -- 2 ^ 62: a number of at most this size has a successor and a negative that fit an i64
-abbrev pub reach : ℕ
-reach = 4611686018427387904
+abbrev pub limit : ℕ
+limit = 4611686018427387904
 
 -- every word is of at most this size
 pub record Near (p : List ℤ) : Type 0 where
-  pub near : (i : ℕ) → Within reach (word p i)
+  pub near : (i : ℕ) → Within limit (word p i)
 
 -- one past a number, and each word of a point
 abbrev pub next : ℤ → ℤ

@@ -1,5 +1,5 @@
 -- What the sweep finds, for every number k of dimensions, every order of them and any set of bad points: `SweepTheorem`, the
--- last record. `Reached` are the states of a sweep each of whose steps jumps over a region of bad points.
+-- last record. `Visited` are the states of a sweep each of whose steps jumps over a region of bad points.
 -- Assumes nothing.
 use mathlib.Core.Path.{_≡_}
 use mathlib.Core.Bool.{true, false}
@@ -54,22 +54,22 @@ module _ (k : ℕ) (order : ℕ → ℕ) (low high : List ℤ) (Bad : List ℤ �
     pub bad : (p : List ℤ) → InBox k low high p → InBox k first last p → Bad p
     pub next : t ≡ advance order low high k (jumpedPast s last)
 
-  pub data Reached : Sweep → Type 0 where
-    start : {s : Sweep} → s ≡ begun low high → Reached s
-    onward : {s t : Sweep} → Reached s → Step s t → Reached t
+  pub data Visited : Sweep → Type 0 where
+    start : {s : Sweep} → s ≡ begun low high → Visited s
+    onward : {s t : Sweep} → Visited s → Step s t → Visited t
 
   pub record SweepTheorem : Type 0 where
     -- while the sweep is live, its candidate is a point of the range
-    pub inside : {s : Sweep} → Reached s → s .live ≡ true → InBox k low high (s .candidate)
+    pub inside : {s : Sweep} → Visited s → s .live ≡ true → InBox k low high (s .candidate)
     -- and it has passed none but bad points
-    pub passed : {s : Sweep} → Reached s → s .live ≡ true → (p : List ℤ) → InBox k low high p → Before k order p (s .candidate) → Bad p
+    pub passed : {s : Sweep} → Visited s → s .live ≡ true → (p : List ℤ) → InBox k low high p → Before k order p (s .candidate) → Bad p
     -- so no other point has a lesser coordinate in the dimension that is pruned, the first of the order
-    pub least : {s : Sweep} → Reached s → s .live ≡ true → (p : List ℤ) → InBox k low high p → (Bad p → ⊥)
+    pub least : {s : Sweep} → Visited s → s .live ≡ true → (p : List ℤ) → InBox k low high p → (Bad p → ⊥)
         → word (s .candidate) (order 0) ≤ℤ word p (order 0)
     -- once it is exhausted, every point of the range is bad
-    pub exhausted : {s : Sweep} → Reached s → s .live ≡ false → (p : List ℤ) → InBox k low high p → Bad p
+    pub exhausted : {s : Sweep} → Visited s → s .live ≡ false → (p : List ℤ) → InBox k low high p → Bad p
     -- each step leaves fewer points after the candidate
-    pub falls : {s t : Sweep} → Reached s → Step s t → t .live ≡ true
+    pub falls : {s t : Sweep} → Visited s → Step s t → t .live ≡ true
         → pointsAfter order low high k (t .candidate) < pointsAfter order low high k (s .candidate)
     -- the candidate's words past the k dimensions are those of the range's low end
-    pub others : {s : Sweep} → Reached s → (i : ℕ) → k ≤ i → word (s .candidate) i ≡ word low i
+    pub others : {s : Sweep} → Visited s → (i : ℕ) → k ≤ i → word (s .candidate) i ≡ word low i

@@ -1,5 +1,5 @@
--- Texts with more words than a sheet has room for: a table of more than 288 words is refused as an empty one is (`refusal-long`), and a
--- block of more than 1,507 words that a text gives is refused with 3 (`text-long`). Assumes nothing.
+-- Texts with more words than a sheet has room for: a table longer than the largest is refused as an empty one is (`refusal-long`), and a
+-- block longer than the largest that a text gives is refused with 3 (`text-long`). Assumes nothing.
 use mathlib.Core.Path.{_≡_, refl, sym, ap, ap₂, _∙_, subst}
 use mathlib.Core.Logic.{⊎-elim}
 use mathlib.Core.Bool.{true, false, not, _&&_}
@@ -18,11 +18,12 @@ use Rattle.integers.proofs.Booleans.{decide, clash, not-false, passes, and-true
 use Rattle.integers.proofs.Below.{below-or}
 use Rattle.integers.proofs.Ints.{ints, true-within}
 use Rattle.integers.proofs.Ranges.{nat-from}
-use Rattle.sheet.specs.Layout.{dims, axes, rowLen, rows}
+use Rattle.sheet.specs.Layout.{blockMost, tableMost, dims, axes, rowLen, rows}
 use Rattle.sheet.specs.Refusal.{_when_, _else_, badHead, badCounts, badBlockLength, badTableLength, refusal}
 use Rattle.sheet.specs.Text.{split, line, linesOf, Sheet, ended, records, afterK, readLines, readText}
 use Rattle.sheet.proofs.Accepted.{passed, rows-by}
 use Rattle.accept.proofs.Chain.{applies, past, from6, refusal-from2}
+use Rattle.line.specs.Answers.{textMost}
 use Rattle.line.proofs.Lines.{lines-length}
 
 -- ---- long tables
@@ -32,7 +33,7 @@ module _ (block : List ℤ) where
   unfolding badHead axes dims
   few-axes h = nat-from (word block 0) (not-false (or-false {a = ltb (length block) 3} h .1)) .1
 
-  bad-long : (t : List ℤ) → badHead block ≡ false → 288 < length t → badTableLength block t ≡ true
+  bad-long : (t : List ℤ) → badHead block ≡ false → tableMost < length t → badTableLength block t ≡ true
   unfolding rowLen
   bad-long t h l =
       passes (λ e.
@@ -56,7 +57,7 @@ module _ (block : List ℤ) where
       refusal-from2 block t
       ∙ ap (λ (g : ℕ). 2 when badHead block else 3 when badCounts block else 4 when badBlockLength block else g) (applies 4 (from6 block t) e)
 
-  pub refusal-long : (t : List ℤ) → 288 < length t → refusal block t ≡ refusal block []
+  pub refusal-long : (t : List ℤ) → tableMost < length t → refusal block t ≡ refusal block []
   refusal-long t l =
       ⊎-elim
       (λ (h : badHead block ≡ true). refusal-from2 block t ∙ applies 1 _ h ∙ sym (refusal-from2 block [] ∙ applies 1 _ h))
@@ -75,7 +76,7 @@ module _ (block : List ℤ) where
 -- ---- long blocks: a block of a text has k from 1 to 4 and lines of the right length, so only its counts can make it long
 
 abbrev LongBlock : Sheet → Type 0
-LongBlock w = 1507 < length (w .block) → (t : List ℤ) → refusal (w .block) t ≡ 3
+LongBlock w = blockMost < length (w .block) → (t : List ℤ) → refusal (w .block) t ≡ 3
 
 head-in : (k n r : ℕ) (ws : List ℤ) → 1 ≤ k → k ≤ 4 → badHead (pos k ∷ pos n ∷ pos r ∷ ws) ≡ false
 unfolding badHead
@@ -83,7 +84,7 @@ head-in k n r ws h g =
     let long : 3 ≤ length (pos k ∷ pos n ∷ pos r ∷ ws) = omega arith in
     false-or (le-ltb _ 3 long) (ap not (true-within {a = pos 1} {b = pos 4} {z = pos k} (omega ints) (omega ints)))
 
-counts-out : (k n r : ℕ) (ws : List ℤ) → k ≤ 4 → length ws ≡ n * (1 + 2 * k) + r * (3 + 2 * k) → 1504 < length ws
+counts-out : (k n r : ℕ) (ws : List ℤ) → k ≤ 4 → length ws ≡ n * (1 + 2 * k) + r * (3 + 2 * k) → blockMost < 3 + length ws
     → badCounts (pos k ∷ pos n ∷ pos r ∷ ws) ≡ true
 unfolding badCounts
 counts-out k n r ws h e l =
@@ -148,7 +149,7 @@ pub text-long : (text : List ℕ) (w : Sheet) → readText text ≡ some w → L
 unfolding readText
 text-long text w e =
     ⊎-elim
-    (λ (h : leb (length text) 65536 ≡ true). lines-long (split 10 text) w (rw (h, readText) at e))
-    (λ (h : leb (length text) 65536 ≡ false).
+    (λ (h : leb (length text) textMost ≡ true). lines-long (split 10 text) w (rw (h, readText) at e))
+    (λ (h : leb (length text) textMost ≡ false).
     let f : none ≡ some w = rw (h, readText) at e in let y : _≡_ {A = ℕ} 0 1 = cc in absurd (omega arith))
-    (decide (leb (length text) 65536))
+    (decide (leb (length text) textMost))

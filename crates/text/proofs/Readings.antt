@@ -8,6 +8,7 @@ use native.Mathlib.Omega.{arith}
 use lib.IntN.{ℤ, pos}
 use lib.ListN.{length, drop, take, replicate}
 use lib.Seq.{sets-eq}
+use Rattle.sheet.specs.Layout.{blockMost, tableMost}
 use Rattle.sheet.specs.Refusal.{refusal}
 use Rattle.sheet.specs.Text.{Sheet, readText, refusalRead, refusalText, sheetUnless, sheetRead, padded, reading}
 use Rattle.line.specs.Answers.{zeros, placed}
@@ -49,10 +50,10 @@ refused-sheet {g = suc n} o h = refl
 reading-refused : (text : List ℕ) {g : ℕ} → refusalText text ≡ g → 0 < g → refusedBy (pos g) ≡ readingOf (reading text)
 unfolding readingOf refusedBy reading sheetRead
 reading-refused text {g} e h =
-    rw (e, refused-sheet (readText text) h, padded-none 1507, padded-none 288)
+    rw (e, refused-sheet (readText text) h, padded-none blockMost, padded-none tableMost)
 
 reading-accepted : (text : List ℕ) (w : Sheet) {b t : List ℤ} {n m : ℕ} → readText text ≡ some w → refusal (w .block) (w .table) ≡ 0
-    → b ≡ padded 1507 (w .block) → n ≡ length (w .block) → t ≡ padded 288 (w .table) → m ≡ length (w .table)
+    → b ≡ padded blockMost (w .block) → n ≡ length (w .block) → t ≡ padded tableMost (w .table) → m ≡ length (w .table)
     → record { refusal = pos 0; block = b; «block_len» = n; table = t; «table_len» = m } ≡ readingOf (reading text)
 unfolding readingOf reading sheetRead sheetUnless refusalText refusalRead
 reading-accepted text w e h b n t m = rw (b, n, t, m, e, h)
@@ -67,9 +68,9 @@ not-formed (some w) p e h = let q = sym (ap (λ (x : Parsed). x .formed) e) ∙ 
 record Formed (o : Option Sheet) (p : Parsed) : Type 0 where
   sheet : Sheet
   is : o ≡ some sheet
-  block : p .block ≡ placed 1507 (sheet .block)
+  block : p .block ≡ placed blockMost (sheet .block)
   blockLen : p .«block_len» ≡ length (sheet .block)
-  table : p .table ≡ placed 288 (sheet .table)
+  table : p .table ≡ placed tableMost (sheet .table)
   tableLen : p .«table_len» ≡ length (sheet .table)
 
 formed : (o : Option Sheet) (p : Parsed) → p ≡ parsedOf o → p .formed ≡ true → Formed o p
@@ -93,11 +94,12 @@ unfolding refusalText refusalRead
 refusal-some text w e = rw e
 
 -- the words of a parsed text fill its two arrays
-pub parsed-long : (o : Option Sheet) (p : Parsed) → p ≡ parsedOf o → (length (p .block) ≡ 1507) × (length (p .table) ≡ 288)
+pub parsed-long : (o : Option Sheet) (p : Parsed) → p ≡ parsedOf o → (length (p .block) ≡ blockMost) × (length (p .table) ≡ tableMost)
 unfolding parsedOf
-parsed-long none p e = (ap (λ (x : Parsed). length (x .block)) e ∙ length-zeros 1507, ap (λ (x : Parsed). length (x .table)) e ∙ length-zeros 288)
+parsed-long none p e =
+    (ap (λ (x : Parsed). length (x .block)) e ∙ length-zeros blockMost, ap (λ (x : Parsed). length (x .table)) e ∙ length-zeros tableMost)
 parsed-long (some w) p e =
-    (ap (λ (x : Parsed). length (x .block)) e ∙ length-placed 1507 _, ap (λ (x : Parsed). length (x .table)) e ∙ length-placed 288 _)
+    (ap (λ (x : Parsed). length (x .block)) e ∙ length-placed blockMost _, ap (λ (x : Parsed). length (x .table)) e ∙ length-placed tableMost _)
 
 module _ (text : List ℕ) (p : Parsed) (e : p ≡ parsedOf (readText text)) where
   pub read-none : p .formed ≡ false → refusedBy (pos 1) ≡ readingOf (reading text)
@@ -110,27 +112,27 @@ module _ (text : List ℕ) (p : Parsed) (e : p ≡ parsedOf (readText text)) whe
     refusal-is : refusalText text ≡ refusal (words .sheet .block) (words .sheet .table)
     refusal-is = refusal-some text (words .sheet) (words .is)
 
-    pub read-long : 1507 < p .«block_len» → refusedBy (pos 3) ≡ readingOf (reading text)
+    pub read-long : blockMost < p .«block_len» → refusedBy (pos 3) ≡ readingOf (reading text)
     read-long l =
-        let long : 1507 < length (words .sheet .block) = (let k = words .blockLen in omega arith) in
+        let long : blockMost < length (words .sheet .block) = (let k = words .blockLen in omega arith) in
         reading-refused text (refusal-is ∙ text-long text (words .sheet) (words .is) long (words .sheet .table)) (omega arith)
 
-    module _ (l : p .«block_len» ≤ 1507) where
+    module _ (l : p .«block_len» ≤ blockMost) where
       block-back : take (p .«block_len») (p .block) ≡ words .sheet .block
-      block-back = ap (take (p .«block_len»)) (words .block) ∙ take-placed 1507 (words .sheet .block) (words .blockLen) l
+      block-back = ap (take (p .«block_len»)) (words .block) ∙ take-placed blockMost (words .sheet .block) (words .blockLen) l
 
       -- g is what the code's check has found
-      pub read-rows : 288 < p .«table_len» → {g : ℤ} → g ≡ pos (refusal ((take (p .«block_len») (p .block))) [])
+      pub read-rows : tableMost < p .«table_len» → {g : ℤ} → g ≡ pos (refusal ((take (p .«block_len») (p .block))) [])
           → refusedBy g ≡ readingOf (reading text)
       read-rows m {g} f =
           let block = words .sheet .block in
-          let long : 288 < length (words .sheet .table) = (let k = words .tableLen in omega arith) in
+          let long : tableMost < length (words .sheet .table) = (let k = words .tableLen in omega arith) in
           ap refusedBy (f ∙ ap (λ (b : List ℤ). pos (refusal (b) [])) block-back)
           ∙ reading-refused text (refusal-is ∙ refusal-long block (words .sheet .table) long) (refusal-empty block)
 
-      module _ (m : p .«table_len» ≤ 288) where
+      module _ (m : p .«table_len» ≤ tableMost) where
         table-back : take (p .«table_len») (p .table) ≡ words .sheet .table
-        table-back = ap (take (p .«table_len»)) (words .table) ∙ take-placed 288 (words .sheet .table) (words .tableLen) m
+        table-back = ap (take (p .«table_len»)) (words .table) ∙ take-placed tableMost (words .sheet .table) (words .tableLen) m
 
         abbrev found : ℕ
         found = refusal ((take (p .«block_len») (p .block))) (take (p .«table_len») (p .table))
@@ -150,5 +152,5 @@ module _ (text : List ℕ) (p : Parsed) (e : p ≡ parsedOf (readText text)) whe
         read-accepted k =
             let w = words .sheet in
             reading-accepted text w (words .is) (sym refusal-is ∙ same ∙ k)
-            (words .block ∙ placed-padded 1507 (w .block) (let n = words .blockLen in omega arith)) (words .blockLen)
-            (words .table ∙ placed-padded 288 (w .table) (let n = words .tableLen in omega arith)) (words .tableLen)
+            (words .block ∙ placed-padded blockMost (w .block) (let n = words .blockLen in omega arith)) (words .blockLen)
+            (words .table ∙ placed-padded tableMost (w .table) (let n = words .tableLen in omega arith)) (words .tableLen)

@@ -2,16 +2,20 @@
 ghost use mathlib.Core.Path.{_≡_};
 ghost use Rattle.sheet.specs.Text.{reading};
 ghost use Rattle.text.specs.Answers.{readingOf, refusedBy};
+pub use line::TEXT_BYTES; // the most bytes of a text
+use sheet::BLOCK_WORDS;
+use sheet::TABLE_WORDS;
 
 // The refusal's number, 0 meaning none; block and table with the lengths in use, zeros past them; of a refused text lengths 0 and zeros.
 pub struct Reading {
     pub refusal: i64,
-    pub block: [i64; 1507],
+    pub block: [i64; BLOCK_WORDS],
     pub block_len: usize,
-    pub table: [i64; 288],
+    pub table: [i64; TABLE_WORDS],
     pub table_len: usize,
 }
 
+// What reading hands back of a refused text.
 fn refused(refusal: i64) -> Reading
     ensures { λ r. ⌜ r ≡ refusedBy refusal ⌝ }
 {
@@ -26,7 +30,8 @@ fn refused(refusal: i64) -> Reading
     }
 }
 
-// A block of more words than there is room for has B or R past its range. A table of more words is refused as an empty one is.
+// Reads a text and checks its sheet. A block of more words than there is room for has B or R past its range, and a table of more words than
+// there is room for is refused as an empty one is.
 pub fn read_text(text: &[u8]) -> Reading
     ensures { λ r. ⌜ r ≡ readingOf (reading (now (text .entry))) ⌝ }
 {
@@ -38,10 +43,10 @@ pub fn read_text(text: &[u8]) -> Reading
     let m = p.table_len;
     let b = p.block;
     let t = p.table;
-    if n > 1507 {
+    if n > BLOCK_WORDS {
         return refused(3);
     }
-    if m > 288 {
+    if m > TABLE_WORDS {
         return refused(accept::refusal(&b[..n], &t[..0]));
     }
     let g = accept::refusal(&b[..n], &t[..m]);

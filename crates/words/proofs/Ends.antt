@@ -7,6 +7,7 @@ use native.Mathlib.Nat.{not-suc-le-zero}
 use native.Mathlib.Omega.{arith}
 use lib.IntN.{ℤ}
 use lib.ListN.{length}
+use Rattle.integers.specs.Below.{UpTo}
 use Rattle.integers.proofs.Ranges.{record-ends}
 use Rattle.sheet.specs.Layout.{dims, axes, boxes, rules, boxLen, ruleLen, rowLen, blockLen, boxAt, ruleAt, rowAt, rows}
 use Rattle.sheet.specs.Accepted.{Head, Rows}
@@ -42,17 +43,22 @@ module _ {block : List ℤ} (h : Head block) where
   unfolding blockLen ruleAt ruleLen
   rule-at-ends {r} l = omega (arith, h .long, record-ends (ruleLen block) l)
 
-  pub box-ends : {x : Place} → BoxPlace block x → x .at + (1 + 2 * dims block) ≤ length block
-  box-ends p = omega (arith, p .stands, box-at-ends (p .below))
+pub row-at-ends : {block : List ℤ} {t : List ℤ} → Rows block t → {i : ℕ} → 1 ≤ i → i ≤ rows block t
+    → rowAt block i + (1 + 2 * axes block) ≤ length t
+unfolding rowAt rowLen
+row-at-ends h {i = zero} f u = absurd (not-suc-le-zero f)
+row-at-ends {block = block} h {i = suc m} f u = omega (arith, h .long, record-ends (rowLen block) u)
 
-  pub rule-ends : {x : Place} → RulePlace block x → x .at + (3 + 2 * dims block) ≤ length block
-  rule-ends p = omega (arith, p .stands, rule-at-ends (p .below))
+module _ {block : List ℤ} {x : Place} where
+  pub box-ends : BoxPlace block x → x .at + (1 + 2 * dims block) ≤ length block
+  box-ends p = omega (arith, p .stands, box-at-ends (p .head) (p .below))
 
-module _ {block : List ℤ} {t : List ℤ} (h : Rows block t) where
-  pub row-at-ends : {i : ℕ} → 1 ≤ i → i ≤ rows block t → rowAt block i + (1 + 2 * axes block) ≤ length t
-  unfolding rowAt rowLen
-  row-at-ends {i = zero} f u = absurd (not-suc-le-zero f)
-  row-at-ends {i = suc m} f u = omega (arith, h .long, record-ends (rowLen block) u)
+  pub rule-ends : RulePlace block x → x .at + (3 + 2 * dims block) ≤ length block
+  rule-ends p = omega (arith, p .stands, rule-at-ends (p .head) (p .below))
 
-  pub row-ends : {x : Place} → RowPlace block t x → x .at + (1 + 2 * axes block) ≤ length t
-  row-ends p = omega (arith, p .stands, row-at-ends (p .from) (p .upto))
+  pub row-ends : {t : List ℤ} → RowPlace block t x → x .at + (1 + 2 * axes block) ≤ length t
+  row-ends p = omega (arith, p .stands, row-at-ends (p .whole) (p .from) (p .upto))
+
+  -- a set of rows has a bit for it
+  pub row-bit : {t : List ℤ} → RowPlace block t x → UpTo 32 (x .number)
+  row-bit p = record { from = p .from; upto = omega (arith, p .upto, p .whole .few-rows) }

@@ -1,13 +1,14 @@
 // Reading the words of a sheet: one small reader for each kind of word. Where a word stands is known besides to acceptance (k, B and R,
 // before there is a head to lean on), to the writing of a narrowed row, and to the reader and the writer of a text.
-// A record's place is found once and handed on. The readers lean on the lengths that checks 2 to 5 leave (`Head`, `Rows`), and on
-// the range of a word only where it is cast.
+// A record's place is found once and handed on, and with it the lengths that checks 2 to 5 leave (`Head`, `Rows`); a reader leans on the
+// range of a word only where it is cast.
 ghost use mathlib.Core.Path.{_≡_};
 ghost use mathlib.Core.Bool.{true};
-ghost use Prim.Native.Nat.{_+_, _^_, _<_, _≤_};
+ghost use Prim.Native.Nat.{_+_, _^_, _<_};
 ghost use lib.ListN.{length};
 ghost use lib.IntN.{pos};
 ghost use Rattle.integers.specs.Integer.{nat, eqZ, within};
+ghost use Rattle.integers.specs.Below.{UpTo};
 ghost use Rattle.integers.specs.Bits.{bit};
 ghost use Rattle.integers.specs.Words.{word};
 ghost use Rattle.sheet.specs.Layout.{dims, axes, boxes, rules, shapeOf, isOf, offset, size};
@@ -160,7 +161,7 @@ pub fn rule_place(block: &[i64], r: usize) -> Place
 // ---- a box
 
 pub fn shape_of(block: &[i64], b: Place) -> i64
-    requires { ⌜ Head (now block) × BoxPlace (now block) b ⌝ }
+    requires { ⌜ BoxPlace (now block) b ⌝ }
     ensures { λ r. ⌜ r ≡ shapeOf (now (block .entry)) (b .number) ⌝ }
 {
     let at = b.at;
@@ -169,7 +170,7 @@ pub fn shape_of(block: &[i64], b: Place) -> i64
 
 // The shape's number.
 pub fn shape_number(block: &[i64], b: Place) -> usize
-    requires { ⌜ Head (now block) × BoxPlace (now block) b × Count (shapeOf (now block) (b .number)) ⌝ }
+    requires { ⌜ BoxPlace (now block) b × Count (shapeOf (now block) (b .number)) ⌝ }
     ensures { λ r. ⌜ r ≡ nat (shapeOf (now (block .entry)) (b .number)) ⌝ }
 {
     let at = b.at;
@@ -178,7 +179,7 @@ pub fn shape_number(block: &[i64], b: Place) -> usize
 
 // Whether it is one of shape s.
 pub fn box_is(block: &[i64], b: Place, s: usize) -> bool
-    requires { ⌜ Head (now block) × BoxPlace (now block) b × Count (shapeOf (now block) (b .number)) ⌝ }
+    requires { ⌜ BoxPlace (now block) b × Count (shapeOf (now block) (b .number)) ⌝ }
     ensures { λ r. ⌜ r ≡ isOf (now (block .entry)) (b .number) s ⌝ }
 {
     let at = b.at;
@@ -186,7 +187,7 @@ pub fn box_is(block: &[i64], b: Place, s: usize) -> bool
 }
 
 pub fn offset_of(block: &[i64], b: Place, d: usize) -> i64
-    requires { ⌜ Head (now block) × BoxPlace (now block) b × (d < dims (now block)) ⌝ }
+    requires { ⌜ BoxPlace (now block) b × (d < dims (now block)) ⌝ }
     ensures { λ r. ⌜ r ≡ offset (now (block .entry)) (b .number) d ⌝ }
 {
     let at = b.at;
@@ -194,7 +195,7 @@ pub fn offset_of(block: &[i64], b: Place, d: usize) -> i64
 }
 
 pub fn size_of(block: &[i64], b: Place, d: usize) -> i64
-    requires { ⌜ Head (now block) × BoxPlace (now block) b × (d < dims (now block)) ⌝ }
+    requires { ⌜ BoxPlace (now block) b × (d < dims (now block)) ⌝ }
     ensures { λ r. ⌜ r ≡ size (now (block .entry)) (b .number) d ⌝ }
 {
     let at = b.at;
@@ -205,7 +206,7 @@ pub fn size_of(block: &[i64], b: Place, d: usize) -> i64
 // ---- a rule
 
 pub fn kind_of(block: &[i64], r: Place) -> i64
-    requires { ⌜ Head (now block) × RulePlace (now block) r ⌝ }
+    requires { ⌜ RulePlace (now block) r ⌝ }
     ensures { λ x. ⌜ x ≡ kind (now (block .entry)) (r .number) ⌝ }
 {
     let at = r.at;
@@ -213,7 +214,7 @@ pub fn kind_of(block: &[i64], r: Place) -> i64
 }
 
 pub fn dim_set_of(block: &[i64], r: Place) -> i64
-    requires { ⌜ Head (now block) × RulePlace (now block) r ⌝ }
+    requires { ⌜ RulePlace (now block) r ⌝ }
     ensures { λ x. ⌜ x ≡ dimSet (now (block .entry)) (r .number) ⌝ }
 {
     let at = r.at;
@@ -221,7 +222,7 @@ pub fn dim_set_of(block: &[i64], r: Place) -> i64
 }
 
 pub fn row_set_of(block: &[i64], r: Place) -> i64
-    requires { ⌜ Head (now block) × RulePlace (now block) r ⌝ }
+    requires { ⌜ RulePlace (now block) r ⌝ }
     ensures { λ x. ⌜ x ≡ rowSet (now (block .entry)) (r .number) ⌝ }
 {
     let at = r.at;
@@ -229,7 +230,7 @@ pub fn row_set_of(block: &[i64], r: Place) -> i64
 }
 
 pub fn is_non_overlap(block: &[i64], r: Place) -> bool
-    requires { ⌜ Head (now block) × RulePlace (now block) r × Count (kind (now block) (r .number)) ⌝ }
+    requires { ⌜ RulePlace (now block) r × Count (kind (now block) (r .number)) ⌝ }
     ensures { λ x. ⌜ x ≡ isNonOverlap (now (block .entry)) (r .number) ⌝ }
 {
     let at = r.at;
@@ -237,7 +238,7 @@ pub fn is_non_overlap(block: &[i64], r: Place) -> bool
 }
 
 pub fn is_containment(block: &[i64], r: Place) -> bool
-    requires { ⌜ Head (now block) × RulePlace (now block) r × Count (kind (now block) (r .number)) ⌝ }
+    requires { ⌜ RulePlace (now block) r × Count (kind (now block) (r .number)) ⌝ }
     ensures { λ x. ⌜ x ≡ isContainment (now (block .entry)) (r .number) ⌝ }
 {
     let at = r.at;
@@ -245,7 +246,7 @@ pub fn is_containment(block: &[i64], r: Place) -> bool
 }
 
 pub fn names_dim(block: &[i64], r: Place, d: usize) -> bool
-    requires { ⌜ Head (now block) × RulePlace (now block) r × Count (dimSet (now block) (r .number))
+    requires { ⌜ RulePlace (now block) r × Count (dimSet (now block) (r .number))
         × (d < dims (now block)) ⌝ }
     ensures { λ x. ⌜ x ≡ namesDim (now (block .entry)) (r .number) d ⌝ }
 {
@@ -254,8 +255,7 @@ pub fn names_dim(block: &[i64], r: Place, d: usize) -> bool
 }
 
 pub fn names_row(block: &[i64], r: Place, i: usize) -> bool
-    requires { ⌜ Head (now block) × RulePlace (now block) r × Count (rowSet (now block) (r .number)) × (1 ≤ i)
-        × (i ≤ 32) ⌝ }
+    requires { ⌜ RulePlace (now block) r × Count (rowSet (now block) (r .number)) × UpTo 32 i ⌝ }
     ensures { λ x. ⌜ x ≡ namesRow (now (block .entry)) (r .number) i ⌝ }
 {
     let at = r.at;
@@ -263,7 +263,7 @@ pub fn names_row(block: &[i64], r: Place, i: usize) -> bool
 }
 
 pub fn room_low(block: &[i64], r: Place, d: usize) -> i64
-    requires { ⌜ Head (now block) × RulePlace (now block) r × (d < dims (now block)) ⌝ }
+    requires { ⌜ RulePlace (now block) r × (d < dims (now block)) ⌝ }
     ensures { λ x. ⌜ x ≡ roomLow (now (block .entry)) (r .number) d ⌝ }
 {
     let at = r.at;
@@ -271,7 +271,7 @@ pub fn room_low(block: &[i64], r: Place, d: usize) -> i64
 }
 
 pub fn room_high(block: &[i64], r: Place, d: usize) -> i64
-    requires { ⌜ Head (now block) × RulePlace (now block) r × (d < dims (now block)) ⌝ }
+    requires { ⌜ RulePlace (now block) r × (d < dims (now block)) ⌝ }
     ensures { λ x. ⌜ x ≡ roomHigh (now (block .entry)) (r .number) d ⌝ }
 {
     let at = r.at;
@@ -295,7 +295,7 @@ pub fn rows_of(block: &[i64], table: &[i64]) -> usize
 }
 
 pub fn row_place(block: &[i64], table: &[i64], i: usize) -> Place
-    requires { ⌜ Head (now block) × Rows (now block) (now table) × (1 ≤ i) × (i ≤ rows (now block) (now table)) ⌝ }
+    requires { ⌜ Head (now block) × Rows (now block) (now table) × UpTo (rows (now block) (now table)) i ⌝ }
     ensures { λ r. ⌜ RowPlace (now (block .entry)) (now (table .entry)) r × (r .number ≡ i) ⌝ }
 {
     let w = row_len(block);
@@ -307,7 +307,7 @@ pub fn row_place(block: &[i64], table: &[i64], i: usize) -> Place
 
 // A row's shapes, as the word, as a set, and one by one.
 pub fn shape_set_of(block: &[i64], table: &[i64], i: Place) -> i64
-    requires { ⌜ Head (now block) × Rows (now block) (now table) × RowPlace (now block) (now table) i ⌝ }
+    requires { ⌜ RowPlace (now block) (now table) i ⌝ }
     ensures { λ r. ⌜ r ≡ shapeSet (now (block .entry)) (now (table .entry)) (i .number) ⌝ }
 {
     let at = i.at;
@@ -315,7 +315,7 @@ pub fn shape_set_of(block: &[i64], table: &[i64], i: Place) -> i64
 }
 
 pub fn shapes_of(block: &[i64], table: &[i64], i: Place) -> u32
-    requires { ⌜ Head (now block) × Rows (now block) (now table) × RowPlace (now block) (now table) i
+    requires { ⌜ RowPlace (now block) (now table) i
         × Count (shapeSet (now block) (now table) (i .number)) ⌝ }
     ensures { λ r. ⌜ r ≡ nat (shapeSet (now (block .entry)) (now (table .entry)) (i .number)) ⌝ }
 {
@@ -324,8 +324,8 @@ pub fn shapes_of(block: &[i64], table: &[i64], i: Place) -> u32
 }
 
 pub fn has_shape(block: &[i64], table: &[i64], i: Place, s: usize) -> bool
-    requires { ⌜ Head (now block) × Rows (now block) (now table) × RowPlace (now block) (now table) i
-        × Count (shapeSet (now block) (now table) (i .number)) × (1 ≤ s) × (s ≤ 32) ⌝ }
+    requires { ⌜ RowPlace (now block) (now table) i
+        × Count (shapeSet (now block) (now table) (i .number)) × UpTo 32 s ⌝ }
     ensures { λ r. ⌜ r ≡ hasShape (now (block .entry)) (now (table .entry)) (i .number) s ⌝ }
 {
     let at = i.at;
@@ -333,7 +333,7 @@ pub fn has_shape(block: &[i64], table: &[i64], i: Place, s: usize) -> bool
 }
 
 pub fn low_of(block: &[i64], table: &[i64], i: Place, d: usize) -> i64
-    requires { ⌜ Head (now block) × Rows (now block) (now table) × RowPlace (now block) (now table) i
+    requires { ⌜ RowPlace (now block) (now table) i
         × (d < axes (now block)) ⌝ }
     ensures { λ r. ⌜ r ≡ low (now (block .entry)) (now (table .entry)) (i .number) d ⌝ }
 {
@@ -342,7 +342,7 @@ pub fn low_of(block: &[i64], table: &[i64], i: Place, d: usize) -> i64
 }
 
 pub fn high_of(block: &[i64], table: &[i64], i: Place, d: usize) -> i64
-    requires { ⌜ Head (now block) × Rows (now block) (now table) × RowPlace (now block) (now table) i
+    requires { ⌜ RowPlace (now block) (now table) i
         × (d < axes (now block)) ⌝ }
     ensures { λ r. ⌜ r ≡ high (now (block .entry)) (now (table .entry)) (i .number) d ⌝ }
 {

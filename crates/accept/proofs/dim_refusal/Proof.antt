@@ -1,5 +1,5 @@
 -- `accept::dim_refusal` meets its contract: the shape's refusal comes first. Assumes nothing.
-use mathlib.Core.Path.{_≡_, sym, ap, ap₂, _∙_}
+use mathlib.Core.Path.{_≡_, ap, ap₂, _∙_}
 use borrow.Author.Needs.{needs}
 use denote.Ref.{now}
 use lib.IntN.{pos}
@@ -7,8 +7,8 @@ use mir.Facts.{toZ-ofZ}
 use Rattle.sheet.specs.Refusal.{noSuchDim, refusalRow, refusalShape, refusalDim}
 use Rattle.sheet.specs.Accepted.{Head}
 use Rattle.sheet.proofs.Accepted.{accepted-head, else-zero}
-use Rattle.accept.proofs.Chain.{then-applies, then-passes, refused-on, accepted}
-use Rattle.accept.proofs.Asked.{row-accepted}
+use Rattle.accept.proofs.Chain.{refused-last, passed-last, else-second, refused-on, accepted}
+use Rattle.accept.proofs.Numbers.{row-accepted}
 use Rattle.accept.proofs.dim_refusal.Statement.{statement}
 use Rattle.accept.proofs.dim_refusal.Tie as tie
 
@@ -41,11 +41,11 @@ no-such-dim-requires c κs = head c
 
 returns-2 : tie.Need-returns-2
 unfolding refusalDim
-returns-2 c = then-applies 11 (none (c .before .before)) (sym (answer (c .before)) ∙ c .if2 .taken)
+returns-2 c = refused-last (else-second _ (none (c .before .before))) (answer (c .before)) (c .if2 .taken)
 
 returns-3 : tie.Need-returns-3
 unfolding refusalDim
-returns-3 c = then-passes 11 (none (c .before .before)) (sym (answer (c .before)) ∙ c .if2 .left)
+returns-3 c = passed-last 11 (else-second _ (none (c .before .before))) (answer (c .before)) (c .if2 .left)
 
 pub dim-refusal-spec : {M : Type 1} → statement M
 dim-refusal-spec =

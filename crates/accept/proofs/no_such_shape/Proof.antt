@@ -17,7 +17,8 @@ use Rattle.sheet.specs.Refusal.{noSuchShape}
 use Rattle.sheet.specs.Accepted.{Count}
 use Rattle.words.proofs.Reading.{cast-nat}
 use Rattle.accept.proofs.Turns.{fails-by, passes-by}
-use Rattle.accept.proofs.Asked.{no-shape, set-count, RowNumber, row-number}
+use Rattle.sheet.proofs.Accepted.{set-count}
+use Rattle.accept.proofs.Numbers.{RowNumber, row-number, row-upto, no-shape}
 use Rattle.accept.proofs.no_such_shape.Statement.{statement}
 use Rattle.accept.proofs.no_such_shape.Tie as tie
 
@@ -55,8 +56,7 @@ cast-row-place c = let n = number (c .before .before) in cast-ok (n .count .from
 row-place-requires : tie.Need-row-place-requires
 row-place-requires c κs =
     let s = c .before .before in
-    let n = number s in
-    (s .pre .0, s .pre .1 .whole, rw (row-cast s) (n .from), rw (row-cast s) (n .upto))
+    (s .pre .0, s .pre .1 .whole, rw (row-cast s) (row-upto (number s)))
 
 cast-has-shape : tie.Need-cast-has-shape
 cast-has-shape c = let k = shape-count (c .before) in cast-ok (k .from) (k .upto) tt tt
@@ -67,7 +67,7 @@ has-shape-requires c κs =
     let s = e .before .before in
     let p = c .row-place .ensures .0 in
     let n = nat-from (s .args .shape) (shape-passed e) in
-    (s .pre .0, s .pre .1 .whole, p, set-count (s .pre .1) (p .from) (p .upto), rw (shape-cast e) (n .0), rw (shape-cast e) (n .1))
+    (p, set-count (s .pre .1) (p .from) (p .upto), rw (shape-cast e) (record { from = n .0; upto = n .1 }))
 
 returns-2 : tie.Need-returns-2
 unfolding noSuchShape

@@ -1,10 +1,10 @@
 -- `accept::placement_refusal` meets its contract: the sheet's refusal comes first. Assumes nothing.
-use mathlib.Core.Path.{_≡_, sym, _∙_}
+use mathlib.Core.Path.{_≡_}
 use borrow.Author.Needs.{needs}
 use denote.Ref.{now}
 use Rattle.sheet.specs.Refusal.{refusal, refusalPlacement}
 use Rattle.sheet.proofs.Accepted.{accepted-head, accepted-table}
-use Rattle.accept.proofs.Chain.{then-applies, then-passes, refused-on, accepted}
+use Rattle.accept.proofs.Chain.{refused-last, passed-last, else-second, refused-on, accepted}
 use Rattle.accept.proofs.placement_refusal.Statement.{statement}
 use Rattle.accept.proofs.placement_refusal.Tie as tie
 
@@ -23,11 +23,11 @@ not-fixed-requires c κs = (accepted-head _ _ (none c), accepted-table _ _ (none
 
 returns-2 : tie.Need-returns-2
 unfolding refusalPlacement
-returns-2 c = then-applies 12 (none (c .before .before)) (sym (c .before .not-fixed .ensures) ∙ c .if2 .taken)
+returns-2 c = refused-last (else-second _ (none (c .before .before))) (c .before .not-fixed .ensures) (c .if2 .taken)
 
 returns-3 : tie.Need-returns-3
 unfolding refusalPlacement
-returns-3 c = then-passes 12 (none (c .before .before)) (sym (c .before .not-fixed .ensures) ∙ c .if2 .left)
+returns-3 c = passed-last 12 (else-second _ (none (c .before .before))) (c .before .not-fixed .ensures) (c .if2 .left)
 
 pub placement-refusal-spec : {M : Type 1} → statement M
 placement-refusal-spec =

@@ -1,11 +1,11 @@
 -- `accept::row_refusal` meets its contract: the sheet's refusal comes first. Assumes nothing.
-use mathlib.Core.Path.{_≡_, sym, ap, _∙_}
+use mathlib.Core.Path.{_≡_, ap, _∙_}
 use borrow.Author.Needs.{needs}
 use denote.Ref.{now}
 use mir.Facts.{toZ-ofZ}
 use Rattle.sheet.specs.Refusal.{noSuchRow, refusal, refusalRow}
 use Rattle.sheet.proofs.Accepted.{accepted-head, accepted-rows}
-use Rattle.accept.proofs.Chain.{then-applies, then-passes, refused-on, accepted}
+use Rattle.accept.proofs.Chain.{refused-last, passed-last, else-second, refused-on, accepted}
 use Rattle.accept.proofs.row_refusal.Statement.{statement}
 use Rattle.accept.proofs.row_refusal.Tie as tie
 
@@ -28,11 +28,11 @@ no-such-row-requires c κs = (accepted-head _ _ (none c), accepted-rows _ _ (non
 
 returns-2 : tie.Need-returns-2
 unfolding refusalRow
-returns-2 c = then-applies 9 (none (c .before .before)) (sym (answer (c .before)) ∙ c .if2 .taken)
+returns-2 c = refused-last (else-second _ (none (c .before .before))) (answer (c .before)) (c .if2 .taken)
 
 returns-3 : tie.Need-returns-3
 unfolding refusalRow
-returns-3 c = then-passes 9 (none (c .before .before)) (sym (answer (c .before)) ∙ c .if2 .left)
+returns-3 c = passed-last 9 (else-second _ (none (c .before .before))) (answer (c .before)) (c .if2 .left)
 
 pub row-refusal-spec : {M : Type 1} → statement M
 row-refusal-spec =

@@ -8,7 +8,7 @@ use denote.Ref.{now}
 use lib.ListN.{length}
 use mir.Facts.{toZ-ofZ}
 use Rattle.sheet.specs.Refusal.{rowSlice, rowStart}
-use Rattle.accept.proofs.Asked.{slice-ends, slice-part}
+use Rattle.accept.proofs.Slices.{slice-ends, slice-part}
 use Rattle.accept.specs.declared.Span.{Span}
 use Rattle.accept.proofs.row_slice.Statement.{statement}
 use Rattle.accept.proofs.row_slice.Tie as tie

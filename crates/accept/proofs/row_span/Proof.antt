@@ -14,7 +14,8 @@ use Rattle.sheet.specs.Refusal.{refusalRow}
 use Rattle.sheet.proofs.Accepted.{accepted-head, accepted-rows}
 use Rattle.words.proofs.Reading.{cast-nat}
 use Rattle.accept.proofs.Chain.{refused, accepted}
-use Rattle.accept.proofs.Asked.{RowNumber, row-number, row-accepted, slice-none, slice-start, slice-length}
+use Rattle.accept.proofs.Numbers.{RowNumber, row-number, row-upto, row-accepted}
+use Rattle.accept.proofs.Slices.{slice-none, slice-start, slice-length}
 use Rattle.accept.proofs.row_span.Statement.{statement}
 use Rattle.accept.proofs.row_span.Tie as tie
 
@@ -45,8 +46,7 @@ cast-row-place c = let n = number c in cast-ok (n .count .from) (n .count .upto)
 row-place-requires : tie.Need-row-place-requires
 row-place-requires c κs =
     let w = row-accepted _ _ _ (none c) .0 in
-    let n = number c in
-    (accepted-head _ _ w, accepted-rows _ _ w, rw (row-cast c) (n .from), rw (row-cast c) (n .upto))
+    (accepted-head _ _ w, accepted-rows _ _ w, rw (row-cast c) (row-upto (number c)))
 
 row-len-requires : tie.Need-row-len-requires
 row-len-requires c κs = accepted-head _ _ (row-accepted _ _ _ (none (c .before)) .0)

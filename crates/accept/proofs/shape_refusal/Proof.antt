@@ -1,13 +1,13 @@
 -- `accept::shape_refusal` meets its contract: the row's refusal comes first. Assumes nothing.
-use mathlib.Core.Path.{_≡_, sym, ap, ap₂, _∙_}
+use mathlib.Core.Path.{_≡_, ap, ap₂, _∙_}
 use borrow.Author.Needs.{needs}
 use denote.Ref.{now}
 use lib.IntN.{pos}
 use mir.Facts.{toZ-ofZ}
 use Rattle.sheet.specs.Refusal.{noSuchShape, refusalRow, refusalShape}
 use Rattle.sheet.proofs.Accepted.{accepted-head, accepted-table}
-use Rattle.accept.proofs.Chain.{then-applies, then-passes, refused-on, accepted}
-use Rattle.accept.proofs.Asked.{row-accepted}
+use Rattle.accept.proofs.Chain.{refused-last, passed-last, else-second, refused-on, accepted}
+use Rattle.accept.proofs.Numbers.{row-accepted}
 use Rattle.accept.proofs.shape_refusal.Statement.{statement}
 use Rattle.accept.proofs.shape_refusal.Tie as tie
 
@@ -37,11 +37,11 @@ no-such-shape-requires c κs =
 
 returns-2 : tie.Need-returns-2
 unfolding refusalShape
-returns-2 c = then-applies 10 (none (c .before .before)) (sym (answer (c .before)) ∙ c .if2 .taken)
+returns-2 c = refused-last (else-second _ (none (c .before .before))) (answer (c .before)) (c .if2 .taken)
 
 returns-3 : tie.Need-returns-3
 unfolding refusalShape
-returns-3 c = then-passes 10 (none (c .before .before)) (sym (answer (c .before)) ∙ c .if2 .left)
+returns-3 c = passed-last 10 (else-second _ (none (c .before .before))) (answer (c .before)) (c .if2 .left)
 
 pub shape-refusal-spec : {M : Type 1} → statement M
 shape-refusal-spec =

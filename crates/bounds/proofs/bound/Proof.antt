@@ -1,14 +1,14 @@
 -- `bounds::bound` meets its contract: a refusal is handed on, and otherwise the checks leave what `bound_in` asks. Assumes nothing.
 use mathlib.Core.Path.{_≡_, sym, ap, _∙_, subst}
 use mathlib.Core.List.{List}
-use Prim.Native.Nat.{ℕ, _≤_, _<_}
+use Prim.Native.Nat.{ℕ, _<_}
 use lib.IntN.{ℤ, pos, natAbs}
 use mir.Syntax.{w64}
 use mir.Val.{toZ, ofZ}
 use mir.Facts.{toZ-ofZ}
 use Rattle.integers.specs.Integer.{nat}
 use Rattle.integers.proofs.Machine.{cast-ok}
-use Rattle.sheet.specs.Layout.{axes, rows}
+use Rattle.sheet.specs.Layout.{axes}
 use Rattle.sheet.specs.Accepted.{Boxed}
 use Rattle.sheet.specs.Answer.{boundAnswer}
 use Rattle.sheet.specs.Refusal.{refusalDim}
@@ -19,6 +19,7 @@ use Rattle.words.proofs.Reading.{read-back, cast-nat}
 use Rattle.accept.proofs.Chain.{refused, accepted}
 use Rattle.outline.specs.Outline.{Subject}
 use Rattle.bounds.specs.Search.{extremeOf}
+use Rattle.accept.proofs.Numbers.{row-upto}
 use Rattle.bounds.proofs.Calls.{ap₃, DimAsked, dim-asked, answer-refused}
 use borrow.Author.Needs.{needs}
 use Rattle.bounds.proofs.bound.Statement.{statement}
@@ -71,8 +72,7 @@ row-place-requires c κs =
     let a = asks c .shape-of in (
       accepted-head (block c) (t c) (a .accepted),
       accepted-rows (block c) (t c) (a .accepted),
-      subst (λ (n : ℕ). 1 ≤ n) (sym (row-is c)) (a .row-in .from),
-      subst (λ (n : ℕ). n ≤ rows (block c) (t c)) (sym (row-is c)) (a .row-in .upto),
+      rw (row-is c) (row-upto (a .row-in)),
     )
 
 cast-s : tie.Need-cast-s

@@ -1,4 +1,4 @@
--- `bounds::search` meets its contract. The loop's invariant: the sweep has been reached by jumps over forbidden regions, and is live. Its
+-- `bounds::search` meets its contract. The loop's invariant: the sweep has come there by jumps over forbidden regions, and is live. Its
 -- measure is the number of points after the candidate. Assumes nothing.
 use mathlib.Core.Path.{_≡_, sym, ap, _∙_}
 use mathlib.Core.Bool.{true}
@@ -109,7 +109,7 @@ region-at-requires c κs =
     let w = e .subject in
     let h = swept-in (task b) (rows b) (row b) (shape b) (loop p .loop .inv .0) (p .turned-point .ensures) (loop p .loop .inv .1) in
     record {
-      asked = record { accepted = w .accepted; table = w .table; outline = w .outline; own = w .shape; near = in-small _ _ (e .small) h };
+      at-point = record { accepted = w .accepted; table = w .table; outline = w .outline; own = w .shape; near = in-small _ _ (e .small) h };
       row = w .row;
       inside = e .inside (p .turned-point .result) h;
       listed = loop p .loop .inv .2;

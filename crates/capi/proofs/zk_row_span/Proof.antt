@@ -10,7 +10,7 @@ use mir.Facts.{toZ-ofZ, toZ-pos}
 use mir.Syntax.{w64}
 use Rattle.integers.proofs.Machine.{fits-word}
 use Rattle.sheet.specs.Refusal.{rowSlice, rowStart}
-use Rattle.accept.proofs.Asked.{slice-ends}
+use Rattle.accept.proofs.Slices.{slice-ends}
 use Rattle.accept.specs.declared.Span.{Span}
 use Rattle.capi.proofs.zk_row_span.Statement.{statement}
 use Rattle.capi.proofs.zk_row_span.Tie as tie

@@ -6,7 +6,7 @@ use native.Mathlib.Numerals.{add-one}
 use native.Mathlib.Omega.{arith}
 use denote.Ref.{now}
 use Rattle.integers.specs.Below.{anyBelow}
-use Rattle.integers.proofs.Below.{any-zero}
+use Rattle.integers.proofs.Below.{up-next, any-zero}
 use Rattle.sheet.specs.Layout.{rows}
 use Rattle.sheet.specs.Allowed.{rowForbids}
 use Rattle.forbid.specs.Region.{rowsForbid}
@@ -34,12 +34,12 @@ row-place-requires : tie.Need-row-place-requires Inv-loop μ-loop
 row-place-requires c κs =
     let n = c .before .before in
     let w = n .before .pre .0 in
-    (w .accepted .head, w .table .whole, omega arith, omega (arith, n .rows-of .ensures, c .loop-test .taken))
+    (w .accepted .head, w .table .whole, up-next (omega (arith, n .rows-of .ensures, c .loop-test .taken)))
 
 row-region-requires : tie.Need-row-region-requires Inv-loop μ-loop
 row-region-requires c κs =
     let s = c .before .before .before .before in
-    record { asked = s .pre .0; rule = s .pre .1; row = c .row-place .ensures .0 }
+    record { at-point = s .pre .0; rule = s .pre .1; row = c .row-place .ensures .0 }
 
 returns : tie.Need-returns Inv-loop μ-loop
 returns c =

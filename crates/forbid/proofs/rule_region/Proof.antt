@@ -1,8 +1,8 @@
 -- `forbid::rule_region` meets its contract: a rule of another kind, or one that does not name the row, forbids nothing. Assumes nothing.
 use mathlib.Core.Path.{sym, _∙_}
-use native.Mathlib.Omega.{arith}
 use Rattle.integers.proofs.Booleans.{not-true, not-false}
 use Rattle.forbid.specs.Region.{ruleForbids}
+use Rattle.words.proofs.Ends.{row-bit}
 use Rattle.forbid.proofs.Regions.{missed, forbids-and}
 use Rattle.forbid.proofs.rule_region.Statement.{statement}
 use Rattle.forbid.proofs.rule_region.Tie as tie
@@ -13,7 +13,7 @@ rule-place-requires c κs = (c .pre .0 .accepted .head, c .pre .2)
 is-non-overlap-of-requires : tie.Need-is-non-overlap-of-requires
 is-non-overlap-of-requires c κs =
     let w = c .before .pre in
-    (w .0 .accepted, c .rule-place .ensures .0, w .1 .from, omega (arith, w .1 .upto, w .0 .table .whole .few-rows))
+    (w .0 .accepted, c .rule-place .ensures .0, row-bit (w .1))
 
 none-requires : tie.Need-none-requires
 none-requires c κs = tt

@@ -111,7 +111,12 @@ read-records-requires c κs =
     let read-line = c .before .before .before .before .before .before in
     let find = read-line .before .before .before in
     let if1 = find .before in
-    (omega arith, omega (arith, ends find), if1 .if1 .left, omega (arith, c .if4 .left), rw (k-is (c .before)) (k-small (word read-line)))
+    record {
+      after-first = omega arith;
+      inside = omega (arith, ends find);
+      text-short = if1 .if1 .left;
+      k-in = record { from = omega (arith, c .if4 .left); upto = rw (k-is (c .before)) (k-small (word read-line)) };
+    }
 
 returns-5 : tie.Need-returns-5
 returns-5 c =

@@ -67,7 +67,12 @@ slice-aggregate-put-counts : tie.Need-slice-aggregate-put-counts
 slice-aggregate-put-counts c = search needs
 
 put-counts-requires : tie.Need-put-counts-requires
-put-counts-requires c κs = search needs
+put-counts-requires c κs =
+    let lines-into3 = c .before .before .before .before in
+    let lines-into2 = lines-into3 .before .before .before in
+    let lines-into = lines-into2 .before .before .before in
+    let pre = lines-into .before .before .before .before .before .pre in
+    search needs
 
 returns-2 : tie.Need-returns-2
 returns-2 c =

@@ -1,6 +1,6 @@
 -- `line::lines_into` meets its contract. The invariant: the lines read so far and those from `p` on are the lines from `at` on.
 -- Assumes nothing.
-use mathlib.Core.Path.{_≡_, refl, sym}
+use mathlib.Core.Path.{_≡_, sym}
 use Prim.Native.Nat.{_+_, _-_, _≤_}
 use native.Mathlib.Omega.{arith}
 use borrow.Author.Needs.{needs}
@@ -9,8 +9,7 @@ use lib.ListN.{length}
 use lib.Seq.{length-take-le}
 use Rattle.integers.proofs.Booleans.{not-true, not-false}
 use Rattle.stores.proofs.Puts.{left-length}
-use Rattle.sheet.specs.Text.{linesOf}
-use Rattle.line.specs.Parts.{partsFrom}
+use Rattle.sheet.specs.Layout.{recordMost}
 use Rattle.line.proofs.Parts.{part-ends}
 use Rattle.line.proofs.Lines.{Walk, walk-first, walk-end, walk-stop, walk-more}
 use Rattle.line.proofs.lines_into.Statement.{statement}
@@ -23,7 +22,7 @@ abbrev μ-loop : tie.MeasureT-loop
 μ-loop s at letter n out₀ to c₀ p₀ t₀ out c p t = length s + 1 - p
 
 loop-holds : tie.Need-loop-holds Inv-loop μ-loop
-loop-holds c = walk-first _ _ _ _ _ _ (c .before .pre .0) (c .before .pre .3)
+loop-holds c = walk-first _ _ _ _ _ _ (c .before .pre)
 
 find-requires : tie.Need-find-requires Inv-loop μ-loop
 find-requires c κs = search needs
@@ -46,7 +45,7 @@ read-line-requires c κs = search needs
 long : (c : tie.After-read-line Inv-loop μ-loop) → c .before .before .before .before .before .before .args .n ≤ length (c .read-line .result .words)
 long c =
     let start = c .before .before .before .before .before .before in
-    let k : length (c .read-line .result .words) ≡ 11 = search needs in omega (arith, start .pre)
+    let k : length (c .read-line .result .words) ≡ recordMost = search needs in omega (arith, start .pre .line-short)
 
 array-share-prefix-w : tie.Need-array-share-prefix-w Inv-loop μ-loop
 array-share-prefix-w c = long (c .before .before .before .before)
@@ -61,7 +60,8 @@ put-words-requires c κs =
     let read-line = c .before .before .before .before .before in
     let loop = read-line .before .before .before .before in
     let start = loop .before .before in
-    rw (length-take-le _ (read-line .read-line .result .words) (long read-line)) (omega (arith, loop .loop .inv .short, start .pre))
+    rw (length-take-le _ (read-line .read-line .result .words) (long read-line))
+    (omega (arith, loop .loop .inv .short, start .pre .text-short, start .pre .line-short))
 
 add-c : tie.Need-add-c Inv-loop μ-loop
 add-c c =
@@ -85,7 +85,7 @@ loop-again c =
     let loop = loop-test .before in
     let start = loop .before .before in
     walk-more _ _ _ _ _ _ (loop .loop .inv) _ (loop-test .loop-test .taken) (find .find .ensures) _ (read-line .read-line .ensures)
-    (not-false (if1 .if1 .left)) (start .pre .2) (c .before .put-words .ensures)
+    (not-false (if1 .if1 .left)) (start .pre .line-short) (c .before .put-words .ensures)
 
 same-length : tie.Need-same-length Inv-loop μ-loop
 same-length c = left-length (c .before .loop .inv .put)

@@ -8,6 +8,7 @@ use denote.Ref.{now}
 use lib.ListN.{length}
 use mir.Facts.{toZ-ofZ}
 use Rattle.integers.proofs.Machine.{fits-word}
+use Rattle.sheet.specs.Layout.{recordMost}
 use Rattle.line.specs.Parts.{partsFrom, numbersIn}
 use Rattle.line.specs.Answers.{zeros, lineOf}
 use Rattle.line.proofs.Parts.{part-ends}
@@ -17,7 +18,7 @@ use Rattle.line.proofs.read_fields.Statement.{statement}
 use Rattle.line.proofs.read_fields.Tie as tie
 
 abbrev Inv-loop : tie.InvT-loop
-Inv-loop s from n w₀ p₀ i₀ w p i = (walked s n p w i ≡ lineOf (numbersIn n (partsFrom 44 s from))) × (i ≤ n) × (length w ≡ 11)
+Inv-loop s from n w₀ p₀ i₀ w p i = (walked s n p w i ≡ lineOf (numbersIn n (partsFrom 44 s from))) × (i ≤ n) × (length w ≡ recordMost)
 
 abbrev μ-loop : tie.MeasureT-loop
 μ-loop s from n w₀ p₀ i₀ w p i = n - i

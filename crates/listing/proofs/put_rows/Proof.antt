@@ -9,6 +9,7 @@ use denote.Ref.{now}
 use lib.IntN.{ℤ, pos}
 use lib.ListN.{length, take, drop, length-append}
 use Rattle.stores.proofs.Puts.{Left, left-more, left-done, left-length, put-as, put-none}
+use Rattle.sheet.specs.Layout.{tableMost}
 use Rattle.sheet.specs.Text.{shown, commas, rowLines}
 use Rattle.listing.proofs.Sizes.{shown-few, commas-few}
 use Rattle.listing.proofs.Rows.{rows-first, rows-more, rows-end, row-room, row-words, row-length}
@@ -26,13 +27,13 @@ abbrev μ-loop : tie.MeasureT-loop
 loop-holds : tie.Need-loop-holds Inv-loop μ-loop
 loop-holds c =
     let all : c .before .args .n - 0 ≡ c .before .args .n = omega arith in
-    (rows-first _ _ _ _ _, omega arith, rw (zero-add, all) (c .before .pre .1), omega arith)
+    (rows-first _ _ _ _ _, omega arith, rw (zero-add, all) (c .before .pre .inside), omega arith)
 
 -- the next row has its room
 record Room (start len n m size : ℕ) : Type 0 where
   fits : start + len ≤ size
   more : start + len + (n - (m + 1)) * len ≤ size
-  few : size ≤ 288
+  few : size ≤ tableMost
 
 room : (c : tie.In-loop Inv-loop μ-loop)
     → let args = c .before .before .before .args in
@@ -41,7 +42,7 @@ room c =
     let start = c .before .before .before in
     let r =
     row-room (c .before .loop .start) (start .args .len) (start .args .n) (c .before .loop .m) _ (c .loop-test .taken) (c .before .loop .inv .2) in
-    record { fits = r .0; more = r .1; few = start .pre .2 }
+    record { fits = r .0; more = r .1; few = start .pre .table-short }
 
 add-put-row : tie.Need-add-put-row Inv-loop μ-loop
 add-put-row c = omega arith
@@ -68,8 +69,10 @@ put-row-requires c κs =
     let start = loop .before .before in
     let r = room loop-test in
     let args = start .args in
-    let size = row-length (now (args .table)) (loop .loop .start) (args .len) (r .fits) in
-    (omega (arith, loop .loop .inv .1, start .pre), rw (row-words (now (args .table)) (loop .loop .start) (args .len), size) (omega arith))
+    let t = now (args .table) in
+    let words = row-words t (loop .loop .start) (args .len) in
+    let size = row-length t (loop .loop .start) (args .len) (r .fits) in
+    (omega (arith, loop .loop .inv .1, start .pre .early, start .pre .few), rw (words, size) (omega arith))
 
 add-start : tie.Need-add-start Inv-loop μ-loop
 add-start c = let r = room (c .before .before .before .before .before) in omega arith

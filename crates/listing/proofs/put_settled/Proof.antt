@@ -8,13 +8,14 @@ use lib.IntN.{ℤ}
 use lib.ListN.{length, take}
 use lib.Seq.{length-take-le, take-all}
 use Rattle.stores.proofs.Puts.{put-as}
+use Rattle.sheet.specs.Layout.{tableMost}
 use Rattle.sheet.specs.Text.{printedFor}
 use borrow.Author.Needs.{needs}
 use Rattle.listing.proofs.put_settled.Statement.{statement}
 use Rattle.listing.proofs.put_settled.Tie as tie
 
-first : (c : tie.Then1) → length (take 288 (now (c .before .before .args .table))) ≡ 288
-first c = length-take-le 288 (now (c .before .before .args .table)) (omega arith)
+first : (c : tie.Then1) → length (take tableMost (now (c .before .before .args .table))) ≡ tableMost
+first c = length-take-le tableMost (now (c .before .before .args .table)) (omega arith)
 
 slice-aggregate-put-table : tie.Need-slice-aggregate-put-table
 slice-aggregate-put-table c = sym (first (c .before .before))
@@ -39,7 +40,7 @@ returns-2 c =
     let put-table2 = c .before .before in
     let if1 = put-table2 .before .before in
     let start = if1 .before .before in
-    let whole = take-all 288 (now (start .args .table)) (if1 .if1 .left) in
+    let whole = take-all tableMost (now (start .args .table)) (if1 .if1 .left) in
     put-as (ap (λ (t : List ℤ). printedFor 0 (now (start .args .block)) (some t)) (sym whole)) (put-table2 .put-table2 .ensures)
 
 pub put-settled-spec : {M : Type 1} → statement M

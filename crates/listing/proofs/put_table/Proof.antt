@@ -10,6 +10,7 @@ use mir.Syntax.{w64}
 use mir.Val.{SFits}
 use mir.Facts.{toZ-ofZ}
 use Rattle.stores.proofs.Puts.{put-as, put-more}
+use Rattle.sheet.specs.Layout.{tableMost}
 use Rattle.sheet.specs.Text.{ascii}
 use Rattle.listing.proofs.Sizes.{commas-few}
 use Rattle.listing.proofs.Rows.{len-some, settled-is}
@@ -30,7 +31,7 @@ slice-aggregate-put-first c = search needs
 abbrev rows : tie.After-row-len → ℕ
 rows c = length (now (c .before .before .args .table)) / c .row-len .result
 
-few : (c : tie.After-row-len) → rows c ≤ 288
+few : (c : tie.After-row-len) → rows c ≤ tableMost
 few c = le-trans (div-le-self _ (c .row-len .result)) (c .before .before .pre)
 
 fits : (c : tie.After-row-len) → SFits w64 (pos (rows c))
@@ -49,7 +50,12 @@ put-rows-requires c κs =
     let start = row-len .before .before in
     let size = commas-few (pos (rows row-len) ∷ []) in
     let put = rw (toZ-ofZ (fits row-len)) at (put-first .put-first .ensures) in
-    (omega (arith, put .past), div-mul-le-self _ (row-len .row-len .result), start .pre, few row-len)
+    record {
+      early = omega (arith, put .past);
+      inside = div-mul-le-self _ (row-len .row-len .result);
+      table-short = start .pre;
+      few = few row-len;
+    }
 
 same-length : tie.Need-same-length
 same-length c = search needs

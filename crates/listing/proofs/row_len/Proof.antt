@@ -27,6 +27,9 @@ returns-2 c =
     let f : SFits w64 (getD (now (c .before .before .before .args .block)) 0 (pos 0)) = search needs in
     len-low _ (omega ints)
 
+add-result : tie.Need-add-result
+add-result c = search needs
+
 returns-3 : tie.Need-returns-3
 returns-3 c =
     let f : SFits w64 (getD (now (c .before .before .before .before .args .block)) 0 (pos 0)) = search needs in
@@ -51,8 +54,8 @@ cast-result c = let k = small c in rw (k .bits) (tt, omega arith)
 mul-result : tie.Need-mul-result
 mul-result c = let k = small c in rw (k .bits) (omega arith)
 
-add-result : tie.Need-add-result
-add-result c = let k = small c in rw (k .bits) (omega arith)
+add-result-2 : tie.Need-add-result-2
+add-result-2 c = let k = small c in rw (k .bits) (omega arith)
 
 returns-4 : tie.Need-returns-4
 returns-4 c = let k = small c in rw (k .bits) (len-in _ (k .word) (k .few))
@@ -64,8 +67,9 @@ row-len-spec =
     returns
     shared-slice-copy-out-k
     returns-2
+    add-result
     returns-3
     cast-result
     mul-result
-    add-result
+    add-result-2
     returns-4)

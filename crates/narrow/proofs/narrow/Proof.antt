@@ -18,7 +18,7 @@ use Rattle.sheet.proofs.Accepted.{accepted-head, accepted-rows, accepted-block,
 use Rattle.words.proofs.Reading.{read-back, cast-nat}
 use Rattle.outline.specs.Outline.{OnRow}
 use Rattle.accept.proofs.Chain.{refused, accepted}
-use Rattle.accept.proofs.Asked.{RowNumber, row-number, row-accepted}
+use Rattle.accept.proofs.Numbers.{row-upto, RowNumber, row-number, row-accepted}
 use Rattle.narrow.proofs.Answers.{narrow-refused}
 use borrow.Author.Needs.{needs}
 use Rattle.narrow.proofs.narrow.Statement.{statement}
@@ -77,7 +77,7 @@ row-place-requires c κs =
     let e = c .before in
     let n = number e in
     let a = sheet-accepted e in
-    (accepted-head _ _ a, accepted-rows _ _ a, rw (row-cast e) (n .from), rw (row-cast e) (n .upto))
+    (accepted-head _ _ a, accepted-rows _ _ a, rw (row-cast e) (row-upto n))
 
 draw-requires : tie.Need-draw-requires
 draw-requires c κs = accepted-block _ _ (sheet-accepted (c .before .before .before))

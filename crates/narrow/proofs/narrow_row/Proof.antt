@@ -1,5 +1,5 @@
--- `narrow_row` meets its contract: the hull of every shape says what is written. Assumes nothing.
-use mathlib.Core.Path.{_≡_, refl, sym, _∙_}
+-- `narrow_row` meets its contract: what is kept of every shape is written. Assumes nothing.
+use mathlib.Core.Path.{_≡_, sym, _∙_}
 use mathlib.Core.List.{List, _∷_}
 use mathlib.Core.Bool.{true, false}
 use mathlib.Core.Option.{Option, none, some}
@@ -10,9 +10,9 @@ use Rattle.integers.specs.Words.{pairsBelow, replaced}
 use Rattle.integers.proofs.Booleans.{not-true, not-false}
 use Rattle.sheet.specs.Layout.{axes, rowAt}
 use Rattle.sheet.specs.Narrow.{narrowOf}
-use Rattle.narrow.specs.Ends.{endAt}
+use Rattle.points.specs.Ends.{endAt}
 use Rattle.narrow.proofs.Complete.{narrow-none, narrow-some}
-use Rattle.narrow.proofs.Hulls.{ends-start}
+use Rattle.narrow.proofs.KeptTo.{ends-start}
 use Rattle.narrow.proofs.Answers.{step-none, step-some}
 use borrow.Author.Needs.{needs}
 use Rattle.narrow.proofs.narrow_row.Statement.{statement}
@@ -28,49 +28,44 @@ module _ (s : tie.Start) where
   abbrev found : Option (List ℤ)
   found = narrowOf block table (s .args .i .number)
 
-sub-t9 : tie.Need-sub-t9
-sub-t9 c = search needs
+sub-ends-at : tie.Need-sub-ends-at
+sub-ends-at c = search needs
 
-sub-t10 : tie.Need-sub-t10
-sub-t10 c = search needs
+ends-at-requires : tie.Need-ends-at-requires
+ends-at-requires c κs = tt
 
-sub-t11 : tie.Need-sub-t11
-sub-t11 c = search needs
+slice-aggregate-kept-shapes : tie.Need-slice-aggregate-kept-shapes
+slice-aggregate-kept-shapes c = search needs
 
-sub-t12 : tie.Need-sub-t12
-sub-t12 c = search needs
-
-slice-aggregate-row-hull : tie.Need-slice-aggregate-row-hull
-slice-aggregate-row-hull c = search needs
-
-row-hull-requires : tie.Need-row-hull-requires
-row-hull-requires c κs =
-    let s = c .before .before .before .before in
+kept-shapes-requires : tie.Need-kept-shapes-requires
+kept-shapes-requires c κs =
+    let e = c .before .before .before .before in
+    let s = e .before in
     record {
       on = s .pre;
       below = omega arith;
-      long = refl;
-      reach = ends-start (block s) (table s) (s .args .i .number) (s .pre .accepted .head .few-axes);
+      long = search needs;
+      ends-of = ends-start (block s) (table s) (s .args .i .number) (s .pre .accepted .head .few-axes) (e .ends-at .ensures);
     }
 
--- what the hull says
-module _ (h : tie.After-row-hull) where
+-- what is kept
+module _ (h : tie.After-kept-shapes) where
   abbrev s : tie.Start
-  s = h .before .before .before .before .before
+  s = h .before .before .before .before .before .before
 
   abbrev ends : List ℤ
-  ends = h .row-hull .last .1 .1 .1 .1 .1 .0
+  ends = h .kept-shapes .last .1 .1 .1 .1 .1 .0
 
-  no-place : h .row-hull .result ≡ 0 → found s ≡ none
+  no-place : h .kept-shapes .result ≡ 0 → found s ≡ none
   no-place e =
       narrow-none (block s) (table s) (s .pre .table) (s .args .i .number) (s .pre .row .from) (s .pre .row .upto)
-      (sym (h .row-hull .ensures .kept) ∙ e)
+      (sym (h .kept-shapes .ensures .kept) ∙ e)
 
-  narrowed : (h .row-hull .result ≡ 0 → ⊥) → found s ≡ some (replaced (table s) (rowAt (block s) (s .args .i .number))
-      (pos (h .row-hull .result) ∷ pairsBelow (axes (block s)) (λ d. endAt false d ends) (λ d. endAt true d ends)))
+  narrowed : (h .kept-shapes .result ≡ 0 → ⊥) → found s ≡ some (replaced (table s) (rowAt (block s) (s .args .i .number))
+      (pos (h .kept-shapes .result) ∷ pairsBelow (axes (block s)) (λ d. endAt false d ends) (λ d. endAt true d ends)))
   narrowed left =
       narrow-some (block s) (table s) (s .pre .table) (s .args .i .number) (s .pre .row .from) (s .pre .row .upto)
-      (h .row-hull .result) ends (omega (arith, left)) (h .row-hull .ensures)
+      (h .kept-shapes .result) ends (omega (arith, left)) (h .kept-shapes .ensures)
 
 same-length : tie.Need-same-length
 same-length c = search needs
@@ -117,12 +112,10 @@ pub narrow-row-spec : {M : Type 1} → statement M
 narrow-row-spec =
     tie.close
     (tie.spec
-    sub-t9
-    sub-t10
-    sub-t11
-    sub-t12
-    slice-aggregate-row-hull
-    row-hull-requires
+    sub-ends-at
+    ends-at-requires
+    slice-aggregate-kept-shapes
+    kept-shapes-requires
     same-length
     same-length-2
     returns

@@ -15,8 +15,9 @@ use Rattle.integers.proofs.Machine.{fits-word}
 use Rattle.integers.proofs.Lists.{length-pairsBelow, pairsBelow-more}
 use Rattle.sheet.specs.Layout.{axes}
 use Rattle.words.proofs.Ends.{row-ends}
+use Rattle.points.specs.Area.{coordinates}
 use Rattle.points.proofs.Sums.{bits-back}
-use Rattle.narrow.specs.Ends.{endAt}
+use Rattle.points.specs.Ends.{endAt}
 use Rattle.narrow.proofs.Writes.{Written, written-none, written-more, written-front, length-written}
 use Rattle.narrow.proofs.write_row.Statement.{statement}
 use Rattle.narrow.proofs.write_row.Tie as tie
@@ -47,11 +48,11 @@ module _ (l : tie.At-loop Inv-loop μ-loop) where
   abbrev so-far : List ℤ
   so-far = pairsBelow (l .loop .d) lows highs
 
-  few : l .before .axes-of .result ≤ 4
-  few = omega (arith, l .before .axes-of .ensures, s .pre .0 .few-axes)
+  few : l .before .axes-of .result ≤ coordinates
+  few = omega (arith, l .before .axes-of .ensures, s .pre .0 .head .few-axes)
 
   ends : at + (1 + 2 * l .before .axes-of .result) ≤ length first
-  ends = omega (arith, l .before .axes-of .ensures, row-ends (s .pre .1) (s .pre .2))
+  ends = omega (arith, l .before .axes-of .ensures, row-ends (s .pre .0))
 
   long : length so-far ≡ 2 * l .loop .d
   long = length-pairsBelow (l .loop .d) lows highs
@@ -90,7 +91,7 @@ module _ (c : tie.After-put Inv-loop μ-loop) where
   low-len = length-written low-written (omega (arith, low-long, ends top, below))
 
 axes-of-requires : tie.Need-axes-of-requires Inv-loop μ-loop
-axes-of-requires c κs = c .pre .0
+axes-of-requires c κs = c .pre .0 .head
 
 loop-holds : tie.Need-loop-holds Inv-loop μ-loop
 unfolding pairsBelow
@@ -109,7 +110,7 @@ mul-put-2 : tie.Need-mul-put-2 Inv-loop μ-loop
 mul-put-2 c = let l = c .before .before in omega (arith, few l, c .before .loop-test .taken)
 
 shared-slice-copy-out-put : tie.Need-shared-slice-copy-out-put Inv-loop μ-loop
-shared-slice-copy-out-put c = let l = c .before .before in omega (arith, few l, s l .pre .3, c .before .loop-test .taken)
+shared-slice-copy-out-put c = let l = c .before .before in omega (arith, few l, s l .pre .1, c .before .loop-test .taken)
 
 put-requires : tie.Need-put-requires Inv-loop μ-loop
 put-requires c κs = let l = c .before .before .before in omega (arith, ends l, len l, c .before .before .loop-test .taken)
@@ -130,7 +131,7 @@ mul-put-4 : tie.Need-mul-put-4 Inv-loop μ-loop
 mul-put-4 c = let p = c .before .before in omega (arith, few (top p), below p)
 
 shared-slice-copy-out-put-2 : tie.Need-shared-slice-copy-out-put-2 Inv-loop μ-loop
-shared-slice-copy-out-put-2 c = let p = c .before .before in omega (arith, few (top p), s (top p) .pre .3, below p)
+shared-slice-copy-out-put-2 c = let p = c .before .before in omega (arith, few (top p), s (top p) .pre .1, below p)
 
 put-requires-2 : tie.Need-put-requires-2 Inv-loop μ-loop
 put-requires-2 c κs = let p = c .before .before .before in omega (arith, ends (top p), below p, low-len p)
@@ -185,7 +186,7 @@ returns c =
     let a = s l .args in
     let q : l .loop .d ≡ axes (now (a .block)) =
     omega (arith, l .before .axes-of .ensures, l .loop .inv .0, c .before .before .before .loop-test .left) in
-    (w .is ∙ ap₂ (λ (p m : ℕ). replaced (first l) p (pos (a .shapes) ∷ pairsBelow m (lows l) (highs l))) (s l .pre .2 .stands) q, w .tells)
+    (w .is ∙ ap₂ (λ (p m : ℕ). replaced (first l) p (pos (a .shapes) ∷ pairsBelow m (lows l) (highs l))) (s l .pre .0 .stands) q, w .tells)
 
 pub write-row-spec : {M : Type 1} → statement M
 write-row-spec =

@@ -20,7 +20,7 @@ suspected-region-requires c κs =
     let s = x .before .before in
     let w = s .pre .listed in
     record {
-      asked = s .pre .asked;
+      at-point = s .pre .at-point;
       row = s .pre .row;
       suspects = w .suspects;
       meets = λ all. w .meets all (s .args .p) (s .pre .inside) (x .known-region .ensures .missed (c .if1 .left));

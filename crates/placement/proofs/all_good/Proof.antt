@@ -6,7 +6,7 @@ use native.Mathlib.Omega.{arith}
 use borrow.Author.Needs.{needs}
 use denote.Ref.{now}
 use Rattle.integers.specs.Below.{allUpTo}
-use Rattle.integers.proofs.Below.{all-zero, upto-at}
+use Rattle.integers.proofs.Below.{up-next, all-zero, upto-at}
 use Rattle.sheet.specs.Placement.{rowFixed, fixed, good}
 use Rattle.accept.proofs.Turns.{fails-by, passes-by, upto-next, upto-false, all-done}
 use Rattle.placement.specs.Rows.{rowGood}
@@ -37,7 +37,7 @@ add-row-place c = search needs
 row-place-requires : tie.Need-row-place-requires Inv-loop μ-loop
 row-place-requires c κs =
     let s = c .before .before .before .pre in
-    (s .accepted .head, s .table .whole, omega arith, omega (arith, c .before .before .rows-of .ensures))
+    (s .accepted .head, s .table .whole, up-next (omega (arith, c .before .before .rows-of .ensures, c .loop-test .taken)))
 
 row-good-requires : tie.Need-row-good-requires Inv-loop μ-loop
 unfolding fixed

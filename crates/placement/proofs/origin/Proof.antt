@@ -38,7 +38,7 @@ loop-holds c = (omega arith, search needs, λ e h. absurd (omega arith))
 low-of-requires : tie.Need-low-of-requires Inv-loop μ-loop
 low-of-requires c κs =
     let s = c .before .before .before in
-    (s .pre .0 .head, s .pre .1 .whole, s .pre .2, omega (arith, c .loop-test .taken, c .before .before .axes-of .ensures))
+    (s .pre .2, omega (arith, c .loop-test .taken, c .before .before .axes-of .ensures))
 
 mul-p : tie.Need-mul-p Inv-loop μ-loop
 mul-p c = let k = few (c .before .before .before) in omega (arith, c .before .loop-test .taken)

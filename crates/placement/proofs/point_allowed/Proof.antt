@@ -1,14 +1,13 @@
 -- `placement::point_allowed` meets its contract: a refusal is handed on, and otherwise the checks leave what `stands` asks. Assumes nothing.
 use mathlib.Core.Path.{_≡_, sym, ap, ap₂, _∙_, subst}
 use mathlib.Core.List.{List}
-use Prim.Native.Nat.{ℕ, _≤_}
+use Prim.Native.Nat.{ℕ}
 use lib.IntN.{ℤ, pos, natAbs}
 use mir.Syntax.{w64}
 use mir.Val.{toZ, ofZ}
 use mir.Facts.{toZ-ofZ}
 use Rattle.integers.specs.Integer.{nat}
 use Rattle.integers.proofs.Machine.{cast-ok}
-use Rattle.sheet.specs.Layout.{rows}
 use Rattle.sheet.specs.Allowed.{allowed}
 use Rattle.sheet.specs.Accepted.{Boxed}
 use Rattle.sheet.specs.Refusal.{refusalShape}
@@ -16,6 +15,7 @@ use Rattle.sheet.specs.declared.PointTest.the-variants as P
 use Rattle.sheet.proofs.Accepted.{accepted-head, accepted-rows, accepted-block, accepted-table}
 use Rattle.words.proofs.Reading.{read-back, cast-nat}
 use Rattle.accept.proofs.Chain.{refused, accepted}
+use Rattle.accept.proofs.Numbers.{row-upto}
 use Rattle.accept.proofs.Shapes.{ShapeAsked, shape-asked}
 use Rattle.placement.proofs.Calls.{answer-refused, answer-allowed, answer-not}
 use borrow.Author.Needs.{needs}
@@ -75,8 +75,7 @@ row-place-requires c κs =
     let a = asks c in (
       accepted-head (block c) (t c) (a .accepted),
       accepted-rows (block c) (t c) (a .accepted),
-      subst (λ (n : ℕ). 1 ≤ n) (sym (row-is c)) (a .row-in .from),
-      subst (λ (n : ℕ). n ≤ rows (block c) (t c)) (sym (row-is c)) (a .row-in .upto),
+      rw (row-is c) (row-upto (a .row-in)),
     )
 
 draw-requires : tie.Need-draw-requires

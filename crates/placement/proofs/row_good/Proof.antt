@@ -4,7 +4,7 @@ use native.Mathlib.Numerals.{add-one}
 use native.Mathlib.Omega.{arith}
 use lib.Count.{trailingZeros, trailing-le}
 use borrow.Author.Needs.{needs}
-use Rattle.accept.proofs.Asked.{set-count}
+use Rattle.sheet.proofs.Accepted.{set-count}
 use Rattle.placement.proofs.OneShape.{held, row-good-is}
 use Rattle.placement.proofs.row_good.Statement.{statement}
 use Rattle.placement.proofs.row_good.Tie as tie
@@ -12,7 +12,7 @@ use Rattle.placement.proofs.row_good.Tie as tie
 shapes-of-requires : tie.Need-shapes-of-requires
 shapes-of-requires c κs =
     let w = c .pre .0 in
-    (w .accepted .head, w .table .whole, w .row, set-count (w .table) (w .row .from) (w .row .upto))
+    (w .row, set-count (w .table) (w .row .from) (w .row .upto))
 
 cast-s : tie.Need-cast-s
 cast-s c = omega (arith, trailing-le 32 (c .shapes-of .result))

@@ -18,25 +18,24 @@ cut-by-rooms-requires c κs =
       record {
         accepted = p .accepted;
         outline = p .outline;
-        from = p .row .from;
-        upto = omega (arith, p .row .upto, p .table .whole .few-rows);
+        row = record { from = p .row .from; upto = omega (arith, p .row .upto, p .table .whole .few-rows) };
         shape = p .shape;
       },
       search needs,
     )
 
-slice-aggregate-area-of : tie.Need-slice-aggregate-area-of
-slice-aggregate-area-of c = search needs
+slice-aggregate-area-at : tie.Need-slice-aggregate-area-at
+slice-aggregate-area-at c = search needs
 
-area-of-requires : tie.Need-area-of-requires
-area-of-requires c κs = search needs
+area-at-requires : tie.Need-area-at-requires
+area-at-requires c κs = search needs
 
 returns : tie.Need-returns
 returns c =
     let r = c .before .before .before in
     let e = r .before .before in
     let p = e .before .pre in
-    rw (c .area-of .ensures)
+    rw (c .area-at .ensures)
     (cut-is (now (e .before .args .block)) (p .accepted .head) (p .table) (p .row) (e .range-ends .ensures) (r .cut-by-rooms .ensures))
 
 pub cut-box-spec : {M : Type 1} → statement M
@@ -46,6 +45,6 @@ cut-box-spec =
     range-ends-requires
     slice-aggregate-cut-by-rooms
     cut-by-rooms-requires
-    slice-aggregate-area-of
-    area-of-requires
+    slice-aggregate-area-at
+    area-at-requires
     returns)

@@ -1,5 +1,5 @@
 -- `region::range_ends` meets its contract: so far the field is cut to the range of each dimension passed. Assumes nothing.
-use mathlib.Core.Path.{_≡_, refl, ap₂, _∙_}
+use mathlib.Core.Path.{_≡_, ap₂, _∙_}
 use mathlib.Core.Bool.{Bool}
 use mathlib.Core.List.{List}
 use Prim.Native.Nat.{ℕ, _≤_, _<_, _-_}
@@ -17,7 +17,8 @@ use Rattle.sheet.specs.Layout.{axes, low, high}
 use Rattle.sheet.specs.Allowed.{inRanges}
 use Rattle.points.specs.Area.{coordinates, areaWords, areaOf}
 use Rattle.points.proofs.Sums.{bits-back}
-use Rattle.points.proofs.Fills.{Fills, fills-words, fills-ends}
+use Rattle.points.proofs.Fills.{Fills, fills-ends-at, fills-ends}
+use borrow.Author.Needs.{needs}
 use Rattle.region.proofs.range_ends.Statement.{statement}
 use Rattle.region.proofs.range_ends.Tie as tie
 
@@ -35,34 +36,28 @@ abbrev μ-loop : tie.MeasureT-loop
 axes-of-requires : tie.Need-axes-of-requires Inv-loop μ-loop
 axes-of-requires c κs = c .pre .0 .head
 
-sub-t7 : tie.Need-sub-t7 Inv-loop μ-loop
-sub-t7 c = omega ints
+sub-ends-at : tie.Need-sub-ends-at Inv-loop μ-loop
+sub-ends-at c = omega ints
 
-sub-t8 : tie.Need-sub-t8 Inv-loop μ-loop
-sub-t8 c = omega ints
-
-sub-t9 : tie.Need-sub-t9 Inv-loop μ-loop
-sub-t9 c = omega ints
-
-sub-t10 : tie.Need-sub-t10 Inv-loop μ-loop
-sub-t10 c = omega ints
+ends-at-requires : tie.Need-ends-at-requires Inv-loop μ-loop
+ends-at-requires c κs = tt
 
 loop-holds : tie.Need-loop-holds Inv-loop μ-loop
-loop-holds c = (omega arith, refl, fills-words _)
+loop-holds c = (omega arith, search needs, fills-ends-at _ (c .ends-at .ensures))
 
 -- the dimension at hand is an axis, and the row's range there
 module _ (c : tie.In-loop Inv-loop μ-loop) where
   abbrev top : tie.Start Inv-loop μ-loop
-  top = c .before .before .before
+  top = c .before .before .before .before
 
-  is-axis : c .before .loop .d < axes (now (c .before .before .before .args .block))
-  is-axis = omega (arith, c .before .before .axes-of .ensures, c .loop-test .taken)
+  is-axis : c .before .loop .d < axes (now (c .before .before .before .before .args .block))
+  is-axis = omega (arith, c .before .before .before .axes-of .ensures, c .loop-test .taken)
 
   few : c .before .loop .d < coordinates
   few = omega (arith, is-axis, top .pre .0 .head .few-axes)
 
 low-of-requires : tie.Need-low-of-requires Inv-loop μ-loop
-low-of-requires c κs = let s = top c in (s .pre .0 .head, s .pre .1 .whole, s .pre .2, is-axis c)
+low-of-requires c κs = let s = top c in (s .pre .2, is-axis c)
 
 mul-ends : tie.Need-mul-ends Inv-loop μ-loop
 mul-ends c = omega (arith, few (c .before))
@@ -71,7 +66,7 @@ array-set-from-ends : tie.Need-array-set-from-ends Inv-loop μ-loop
 array-set-from-ends c = omega (arith, few (c .before), c .before .before .loop .inv .1)
 
 high-of-requires : tie.Need-high-of-requires Inv-loop μ-loop
-high-of-requires c κs = let s = top (c .before) in (s .pre .0 .head, s .pre .1 .whole, s .pre .2, is-axis (c .before))
+high-of-requires c κs = let s = top (c .before) in (s .pre .2, is-axis (c .before))
 
 add-ends : tie.Need-add-ends Inv-loop μ-loop
 add-ends c = omega (arith, few (c .before .before))
@@ -111,8 +106,8 @@ returns : tie.Need-returns Inv-loop μ-loop
 unfolding inRanges
 returns c =
     let l = c .before in
-    let q : l .loop .d ≡ axes (now (l .before .before .args .block)) =
-    omega (arith, l .before .axes-of .ensures, l .loop .inv .0, c .loop-test .left) in
+    let q : l .loop .d ≡ axes (now (l .before .before .before .args .block)) =
+    omega (arith, l .before .before .axes-of .ensures, l .loop .inv .0, c .loop-test .left) in
     rw q at (l .loop .inv .2 .cuts)
 
 pub range-ends-spec : {M : Type 1} → statement M
@@ -122,10 +117,8 @@ range-ends-spec =
     Inv-loop
     μ-loop
     axes-of-requires
-    sub-t7
-    sub-t8
-    sub-t9
-    sub-t10
+    sub-ends-at
+    ends-at-requires
     loop-holds
     low-of-requires
     mul-ends

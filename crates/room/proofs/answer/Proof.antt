@@ -14,6 +14,7 @@ use mir.Syntax.{w64}
 use mir.Val.{SFits, toZ, ofZ}
 use mir.Facts.{toZ-ofZ}
 use Rattle.integers.proofs.Ints.{ints}
+use Rattle.sheet.specs.Layout.{tableMost}
 use Rattle.sheet.specs.declared.Settling.the-variants.{Refused}
 use Rattle.room.specs.Answers.{printedOf}
 use Rattle.room.proofs.Printed.{blockIn, tableIn, block-room, table-room, printed-refused, printed-settled}
@@ -38,7 +39,7 @@ module _ (c : tie.After-read-text) where
   table-long : c .read-text .result .«table_len» ≡ length (take (c .read-text .result .«table_len») (c .read-text .result .table))
   table-long = sym (length-take-le _ (c .read-text .result .table) table-in)
 
-table-full : (c : tie.After-struct-told) → length (c .before .read-text .result .table) ≡ 288
+table-full : (c : tie.After-struct-told) → length (c .before .read-text .result .table) ≡ tableMost
 table-full c = search needs
 
 array-share-prefix-b : tie.Need-array-share-prefix-b
@@ -65,8 +66,8 @@ returns c =
     let f : SFits w64 (r .refusal) = search needs in
     let h : pos 0 <ℤ r .refusal = omega (ints, if1 .if1 .taken) in
     answered text (Refused (toZ w64 (ofZ w64 (r .refusal)))) (blockIn r) (tableIn r) (c .write-answer .ensures) (search needs)
-    (ap (λ (z : ℤ). printedOf (Refused z) (blockIn r) (take 288 (tableIn r))) (toZ-ofZ f)
-    ∙ printed-refused text r (d .read-text .ensures) h (blockIn r) (take 288 (tableIn r)))
+    (ap (λ (z : ℤ). printedOf (Refused z) (blockIn r) (take tableMost (tableIn r))) (toZ-ofZ f)
+    ∙ printed-refused text r (d .read-text .ensures) h (blockIn r) (take tableMost (tableIn r)))
 
 array-share-prefix-b-2 : tie.Need-array-share-prefix-b-2
 array-share-prefix-b-2 c = block-in (c .before .before .before .before)
@@ -121,10 +122,10 @@ returns-2 c =
     let r = d .read-text .result in
     let f : SFits w64 (r .refusal) = search needs in
     let h : r .refusal ≤ℤ pos 0 = omega (ints, if1 .if1 .left) in
-    let few : length (left t4) ≤ 288 = omega (arith, left-long t4, table-in d, table-full (if1 .before .before .before)) in
+    let few : length (left t4) ≤ tableMost = omega (arith, left-long t4, table-in d, table-full (if1 .before .before .before)) in
     let n = r .«table_len» in
     answered text (settle .result) (blockIn r) (take n (left t4 ++ drop n (r .table))) (c .write-answer2 .ensures) (search needs)
-    (ap (λ (t : List ℤ). printedOf (settle .result) (blockIn r) (take 288 t)) (front (left t4) (r .table) n (left-long t4))
+    (ap (λ (t : List ℤ). printedOf (settle .result) (blockIn r) (take tableMost t)) (front (left t4) (r .table) n (left-long t4))
     ∙ printed-settled text r (d .read-text .ensures) h (settle .ensures .0) (settle .ensures .1) few)
 
 pub answer-spec : {M : Type 1} → statement M

@@ -10,7 +10,7 @@ use lib.ListN.{length}
 use lib.IntN.{pos}
 use Rattle.sheet.specs.Text.{ascii, commas}
 use Rattle.sheet.specs.declared.Settling.the-variants.{Refused}
-use Rattle.room.specs.Answers.{printedOf, response}
+use Rattle.room.specs.Answers.{answerMost, printedOf, response}
 use Rattle.room.proofs.Printed.{printed-few}
 use Rattle.room.proofs.Whole.{put-counts}
 use Rattle.room.proofs.respond.Statement.{statement}
@@ -20,7 +20,7 @@ put-refused-requires : tie.Need-put-refused-requires
 put-refused-requires c κs = tt
 
 -- the refusal's bytes have room
-refused-few : length (ascii "REFUSED" ++ commas (pos 1 ∷ [])) ≤ 13000
+refused-few : length (ascii "REFUSED" ++ commas (pos 1 ∷ [])) ≤ answerMost
 unfolding printedOf
 refused-few = printed-few (Refused (pos 1)) [] [] (omega arith)
 
@@ -28,7 +28,7 @@ returns : tie.Need-returns
 unfolding response
 returns c =
     let b = c .before .before in
-    let room : length (now (b .before .before .args .out)) ≡ 13000 = search needs in
+    let room : length (now (b .before .before .args .out)) ≡ answerMost = search needs in
     rw (not-true (b .before .before .args .whole) (b .if1 .taken))
     (c .put-refused .ensures, put-counts (c .put-refused .ensures) (omega (arith, refused-few)))
 

@@ -9,8 +9,10 @@ use lib.ListN.{length, take, drop, replicate}
 use lib.Seq.{length-take-le}
 use Rattle.integers.proofs.Booleans.{not-true, not-false}
 use Rattle.sheet.specs.Accepted.{Table}
+use Rattle.sheet.specs.Layout.{tableMost}
+use Rattle.sheet.proofs.Accepted.{table-short}
 use Rattle.settle.specs.Todo.{FoundBy}
-use Rattle.settle.proofs.Copies.{front, whole, fits, answer-none, answer-some}
+use Rattle.settle.proofs.Copies.{front, whole, answer-none, answer-some}
 use Rattle.settle.proofs.settle_in.Statement.{statement}
 use Rattle.settle.proofs.settle_in.Tie as tie
 
@@ -21,17 +23,17 @@ module _ (s : tie.Start) where
   abbrev t : List ℤ
   t = s .args .table .now
 
-  short : length t ≤ 288
-  short = fits (s .pre .0) (s .pre .1)
+  short : length t ≤ tableMost
+  short = table-short (s .pre .0 .head) (s .pre .1 .whole)
 
 array-borrow-prefix-work : tie.Need-array-borrow-prefix-work
 array-borrow-prefix-work c = short c
 
 slice-aggregate-copy : tie.Need-slice-aggregate-copy
-slice-aggregate-copy c = sym (length-take-le _ (replicate 288 (pos 0)) (short (c .before)))
+slice-aggregate-copy c = sym (length-take-le _ (replicate tableMost (pos 0)) (short (c .before)))
 
 copy-requires : tie.Need-copy-requires
-copy-requires c κs = length-take-le _ (replicate 288 (pos 0)) (short (c .before .before))
+copy-requires c κs = length-take-le _ (replicate tableMost (pos 0)) (short (c .before .before))
 
 -- the copy, after its first words came back from `copy`
 module _ (f : tie.After-copy) where
@@ -39,16 +41,16 @@ module _ (f : tie.After-copy) where
   s = f .before .before .before
 
   abbrev work : List ℤ
-  work = f .copy .last .0 ++ drop (length (t s)) (replicate 288 (pos 0))
+  work = f .copy .last .0 ++ drop (length (t s)) (replicate tableMost (pos 0))
 
   long : length (f .copy .last .0) ≡ length (t s)
   long = ap length (f .copy .ensures)
 
   same : take (length (t s)) work ≡ t s
-  same = front (f .copy .last .0) (replicate 288 (pos 0)) (length (t s)) long ∙ f .copy .ensures
+  same = front (f .copy .last .0) (replicate tableMost (pos 0)) (length (t s)) long ∙ f .copy .ensures
 
-  all : length work ≡ 288
-  all = whole (f .copy .last .0) (replicate 288 (pos 0)) (length (t s)) long (short s) refl
+  all : length work ≡ tableMost
+  all = whole (f .copy .last .0) (replicate tableMost (pos 0)) (length (t s)) long (short s) refl
 
 array-borrow-prefix-work-2 : tie.Need-array-borrow-prefix-work-2
 array-borrow-prefix-work-2 c = let f = c .before in omega (arith, all f, short (s f))

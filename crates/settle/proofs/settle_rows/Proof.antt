@@ -14,7 +14,9 @@ use Rattle.integers.proofs.Booleans.{clash}
 use Rattle.sheet.specs.Layout.{axes, rows}
 use Rattle.sheet.specs.Accepted.{Table}
 use Rattle.sheet.proofs.Accepted.{rows-same}
-use Rattle.settle.specs.Todo.{rowsMost, todo}
+use Rattle.integers.proofs.Below.{up-next}
+use Rattle.sheet.specs.Layout.{rowsMost}
+use Rattle.settle.specs.Todo.{todo}
 use Rattle.settle.proofs.Turns.{todo-yes}
 use Rattle.settle.proofs.Worked.{OnTheWay, toGo, worked-start, worked-end}
 use Rattle.settle.proofs.Steps.{cleared, Turn, turn-none, turn-still, still-less, turn-good, turn-moved, moved-less}
@@ -28,8 +30,8 @@ Inv-loop block table₀ outline suspects₀ n known₀ due₀ at₀ table suspec
 abbrev μ-loop : tie.MeasureT-loop
 μ-loop block table₀ outline suspects₀ n known₀ due₀ at₀ table suspects known due at = toGo block (rows block table₀) table due
 
-all-set : (m : ℕ) → m < rowsMost → todo (replicate 32 (pos 1)) m ≡ true
-all-set m h = todo-yes (replicate 32 (pos 1)) m (getD-replicate 32 m (pos 1) (pos 0) h)
+all-set : (m : ℕ) → m < rowsMost → todo (replicate rowsMost (pos 1)) m ≡ true
+all-set m h = todo-yes (replicate rowsMost (pos 1)) m (getD-replicate 32 m (pos 1) (pos 0) h)
 
 -- what is known where the loop starts a turn
 module _ (l : tie.At-loop Inv-loop μ-loop) where
@@ -116,7 +118,7 @@ row-place-requires : tie.Need-row-place-requires Inv-loop μ-loop
 row-place-requires c κs =
     let l = c .before .before .before .before in
     let n = rows-same (block l) (l .loop .table) (s l .args .table .now) (l .loop .inv .0 .way .good .as-long) in
-    (s l .pre .0 .head, table l .whole, omega arith, omega (arith, not-last (c .before), l .loop .inv .1, n))
+    (s l .pre .0 .head, table l .whole, up-next (omega (arith, not-last (c .before), l .loop .inv .1, n)))
 
 narrow-row-requires : tie.Need-narrow-row-requires Inv-loop μ-loop
 narrow-row-requires c κs =
@@ -157,7 +159,13 @@ touched-requires c κs =
         accepted = s (l d) .pre .0;
         table = good .table;
         outline = s (l d) .pre .2;
-        row = record { from = place .from; upto = omega (arith, turn d .number, turn d .below, as-many); stands = place .stands };
+        row = record {
+          head = place .head;
+          whole = good .table .whole;
+          from = place .from;
+          upto = omega (arith, turn d .number, turn d .below, as-many);
+          stands = place .stands;
+        };
       };
       count = omega (arith, l d .loop .inv .1, as-many);
       long = l d .loop .inv .4;

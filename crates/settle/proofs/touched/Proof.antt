@@ -13,7 +13,7 @@ use Rattle.integers.proofs.Below.{below-or}
 use Rattle.integers.proofs.Bits.{bit-past}
 use Rattle.sheet.specs.Layout.{rules}
 use Rattle.outline.specs.Places.{rulesAt}
-use Rattle.nearby.proofs.Covers.{unreached-covered}
+use Rattle.nearby.proofs.Covers.{harmless-covered}
 use Rattle.settle.specs.Todo.{Spared, Touched}
 use Rattle.settle.proofs.Turns.{untouched, touched-so, touched-next}
 use Rattle.settle.proofs.touched.Statement.{statement}
@@ -80,7 +80,7 @@ module _ (l : tie.At-loop Inv-loop μ-loop) where
       (l .loop .due)
   spares passed =
       let a = start .args in
-      touched-so (l .loop .inv .2) (λ m h spared. unreached-covered (a .block .now) (a .table .now) (a .outline .now)
+      touched-so (l .loop .inv .2) (λ m h spared. harmless-covered (a .block .now) (a .table .now) (a .outline .now)
       (start .pre .on .outline .rules) (a .i .number) (suc m) (λ q b k. spared q (passed q b k) k))
 
 same-length : tie.Need-same-length Inv-loop μ-loop

@@ -5,7 +5,8 @@ use Prim.Native.Nat.{_+_, _-_, _≤_}
 use native.Mathlib.Omega.{arith}
 use lib.ListN.{length, length-set}
 use Rattle.integers.proofs.Booleans.{clash}
-use Rattle.settle.specs.Todo.{rowsMost, Spared}
+use Rattle.sheet.specs.Layout.{rowsMost}
+use Rattle.settle.specs.Todo.{Spared}
 use Rattle.settle.proofs.Turns.{todo-taken, Setting, setting-start, setting-stay, setting-put, setting-done}
 use Rattle.settle.proofs.touched_by.Statement.{statement}
 use Rattle.settle.proofs.touched_by.Tie as tie
@@ -29,8 +30,8 @@ mul-if1 c = omega (arith, few (c .before .before))
 slice-copy-out-if1 : tie.Need-slice-copy-out-if1 Inv-loop μ-loop
 slice-copy-out-if1 c = omega (arith, few (c .before .before), c .before .before .pre .0 .long)
 
-reaches-requires : tie.Need-reaches-requires Inv-loop μ-loop
-reaches-requires c κs =
+threatens-requires : tie.Need-threatens-requires Inv-loop μ-loop
+threatens-requires c κs =
     let s = c .before .before .before .before in
     (s .pre .0 .on, s .pre .1, omega (arith, s .pre .0 .count, c .before .before .loop-test .taken))
 
@@ -85,7 +86,7 @@ touched-by-spec =
     loop-holds
     mul-if1
     slice-copy-out-if1
-    reaches-requires
+    threatens-requires
     mul-due
     slice-set-of-due
     add-m

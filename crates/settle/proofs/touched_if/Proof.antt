@@ -9,6 +9,7 @@ use Rattle.integers.proofs.Booleans.{clash, not-true, true-and}
 use Rattle.sheet.specs.Layout.{isNonOverlap, namesRow}
 use Rattle.settle.specs.Todo.{Spared, Touched}
 use Rattle.settle.proofs.Turns.{untouched, touched-so}
+use Rattle.words.proofs.Ends.{row-bit}
 use Rattle.settle.proofs.touched_if.Statement.{statement}
 use Rattle.settle.proofs.touched_if.Tie as tie
 
@@ -26,7 +27,7 @@ rule-place-requires c κs = let s = c .before .before in (s .pre .0 .on .accepte
 is-non-overlap-of-requires : tie.Need-is-non-overlap-of-requires
 is-non-overlap-of-requires c κs =
     let w = c .before .before .before .pre .0 .on in
-    (w .accepted, c .rule-place .ensures .0, w .row .from, omega (arith, w .row .upto, w .table .whole .few-rows))
+    (w .accepted, c .rule-place .ensures .0, row-bit (w .row))
 
 -- whether the rule binds row i
 binds : (c : tie.After-is-non-overlap-of) → let a = c .before .before .before .before .args in

@@ -30,7 +30,7 @@ add-t7 : tie.Need-add-t7
 add-t7 c = omega (arith, is c, box-at-ends (c .before .pre .0) (c .before .pre .1))
 
 returns : tie.Need-returns
-returns c = (record { below = c .before .pre .1; stands = is c }, refl)
+returns c = (record { head = c .before .pre .0; below = c .before .pre .1; stands = is c }, refl)
 
 pub box-place-spec : {M : Type 1} → statement M
 box-place-spec = tie.close (tie.spec dims-of-requires mul-t4 add-t5 mul-t6 add-t7 returns)

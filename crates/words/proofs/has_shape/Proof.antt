@@ -13,11 +13,11 @@ sub-bit-at c = search needs
 
 bit-at-requires : tie.Need-bit-at-requires
 unfolding shapeSet
-bit-at-requires c κs = (omega (arith, row-ends (c .pre .1) (c .pre .2)), rw (c .pre .2 .stands) (c .pre .3), omega (arith, c .pre .4, c .pre .5))
+bit-at-requires c κs = (omega (arith, row-ends (c .pre .0)), rw (c .pre .0 .stands) (c .pre .1), omega (arith, c .pre .2 .from, c .pre .2 .upto))
 
 returns : tie.Need-returns
 unfolding hasShape shapeSet
-returns c = c .bit-at .ensures ∙ rw (c .before .pre .2 .stands) (set-bit _ (c .before .args .s) (c .before .pre .4))
+returns c = c .bit-at .ensures ∙ rw (c .before .pre .0 .stands) (set-bit _ (c .before .args .s) (c .before .pre .2 .from))
 
 pub has-shape-spec : {M : Type 1} → statement M
 has-shape-spec = tie.close (tie.spec sub-bit-at bit-at-requires returns)

@@ -7,16 +7,16 @@ use Rattle.words.proofs.names_dim.Statement.{statement}
 use Rattle.words.proofs.names_dim.Tie as tie
 
 add-bit-at : tie.Need-add-bit-at
-add-bit-at c = omega (arith, rule-ends (c .pre .0) (c .pre .1))
+add-bit-at c = omega (arith, rule-ends (c .pre .0))
 
 bit-at-requires : tie.Need-bit-at-requires
 unfolding dimSet
 bit-at-requires c κs =
-    (omega (arith, rule-ends (c .pre .0) (c .pre .1)), rw (c .pre .1 .stands) (c .pre .2), omega (arith, c .pre .0 .few-dims, c .pre .3))
+    (omega (arith, rule-ends (c .pre .0)), rw (c .pre .0 .stands) (c .pre .1), omega (arith, c .pre .0 .head .few-dims, c .pre .2))
 
 returns : tie.Need-returns
 unfolding namesDim dimSet
-returns c = c .bit-at .ensures ∙ rw (c .before .pre .1 .stands)
+returns c = c .bit-at .ensures ∙ rw (c .before .pre .0 .stands)
 
 pub names-dim-spec : {M : Type 1} → statement M
 names-dim-spec = tie.close (tie.spec add-bit-at bit-at-requires returns)

@@ -8,17 +8,17 @@ use Rattle.words.proofs.offset_of.Statement.{statement}
 use Rattle.words.proofs.offset_of.Tie as tie
 
 add-word-at : tie.Need-add-word-at
-add-word-at c = omega (arith, box-ends (c .pre .0) (c .pre .1))
+add-word-at c = omega (arith, box-ends (c .pre .0))
 
 add-word-at-2 : tie.Need-add-word-at-2
-add-word-at-2 c = omega (arith, box-ends (c .pre .0) (c .pre .1))
+add-word-at-2 c = omega (arith, box-ends (c .pre .0))
 
 word-at-requires : tie.Need-word-at-requires
-word-at-requires c κs = omega (arith, box-ends (c .pre .0) (c .pre .1))
+word-at-requires c κs = omega (arith, box-ends (c .pre .0))
 
 returns : tie.Need-returns
 unfolding offset
-returns c = read-back (c .word-at .ensures) (c .word-at .ok) ∙ rw (c .before .pre .1 .stands)
+returns c = read-back (c .word-at .ensures) (c .word-at .ok) ∙ rw (c .before .pre .0 .stands)
 
 pub offset-of-spec : {M : Type 1} → statement M
 offset-of-spec = tie.close (tie.spec add-word-at add-word-at-2 word-at-requires returns)

@@ -11,7 +11,7 @@ use Rattle.words.proofs.row_place.Tie as tie
 
 -- the code's position
 is : (c : tie.After-row-len) → (c .before .args .i - 1) * c .row-len .result ≡ rowAt (now (c .before .args .block)) (c .before .args .i)
-is c = rw (c .row-len .ensures) (row-at _ (c .before .args .i) (c .before .pre .2))
+is c = rw (c .row-len .ensures) (row-at _ (c .before .args .i) (c .before .pre .2 .from))
 
 row-len-requires : tie.Need-row-len-requires
 row-len-requires c κs = search needs
@@ -20,10 +20,12 @@ sub-t5 : tie.Need-sub-t5
 sub-t5 c = search needs
 
 mul-t6 : tie.Need-mul-t6
-mul-t6 c = omega (arith, is c, row-at-ends (c .before .pre .1) (c .before .pre .2) (c .before .pre .3))
+mul-t6 c = omega (arith, is c, row-at-ends (c .before .pre .1) (c .before .pre .2 .from) (c .before .pre .2 .upto))
 
 returns : tie.Need-returns
-returns c = (record { from = c .before .pre .2; upto = c .before .pre .3; stands = is c }, refl)
+returns c =
+    let pre = c .before .pre in
+    (record { head = pre .0; whole = pre .1; from = pre .2 .from; upto = pre .2 .upto; stands = is c }, refl)
 
 pub row-place-spec : {M : Type 1} → statement M
 row-place-spec = tie.close (tie.spec row-len-requires sub-t5 mul-t6 returns)

@@ -46,7 +46,7 @@ add-t12 : tie.Need-add-t12
 add-t12 c = omega (arith, is c, rule-at-ends (c .before .before .pre .0) (c .before .before .pre .1))
 
 returns : tie.Need-returns
-returns c = (record { below = c .before .before .pre .1; stands = is c }, refl)
+returns c = (record { head = c .before .before .pre .0; below = c .before .before .pre .1; stands = is c }, refl)
 
 pub rule-place-spec : {M : Type 1} → statement M
 rule-place-spec =

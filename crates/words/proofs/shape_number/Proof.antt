@@ -8,11 +8,11 @@ use Rattle.words.proofs.shape_number.Tie as tie
 
 count-at-requires : tie.Need-count-at-requires
 unfolding shapeOf
-count-at-requires c κs = (omega (arith, box-ends (c .pre .0) (c .pre .1)), rw (c .pre .1 .stands) (c .pre .2))
+count-at-requires c κs = (omega (arith, box-ends (c .pre .0)), rw (c .pre .0 .stands) (c .pre .1))
 
 returns : tie.Need-returns
 unfolding shapeOf
-returns c = c .count-at .ensures ∙ rw (c .before .pre .1 .stands)
+returns c = c .count-at .ensures ∙ rw (c .before .pre .0 .stands)
 
 pub shape-number-spec : {M : Type 1} → statement M
 shape-number-spec = tie.close (tie.spec count-at-requires returns)

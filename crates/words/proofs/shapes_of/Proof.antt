@@ -8,11 +8,11 @@ use Rattle.words.proofs.shapes_of.Tie as tie
 
 set-at-requires : tie.Need-set-at-requires
 unfolding shapeSet
-set-at-requires c κs = (omega (arith, row-ends (c .pre .1) (c .pre .2)), rw (c .pre .2 .stands) (c .pre .3))
+set-at-requires c κs = (omega (arith, row-ends (c .pre .0)), rw (c .pre .0 .stands) (c .pre .1))
 
 returns : tie.Need-returns
 unfolding shapeSet
-returns c = c .set-at .ensures ∙ rw (c .before .pre .2 .stands)
+returns c = c .set-at .ensures ∙ rw (c .before .pre .0 .stands)
 
 pub shapes-of-spec : {M : Type 1} → statement M
 shapes-of-spec = tie.close (tie.spec set-at-requires returns)

@@ -12,20 +12,20 @@ dims-of-requires : tie.Need-dims-of-requires
 dims-of-requires c κs = search needs
 
 add-word-at : tie.Need-add-word-at
-add-word-at c = omega (arith, c .dims-of .ensures, box-ends (c .before .pre .0) (c .before .pre .1))
+add-word-at c = omega (arith, c .dims-of .ensures, box-ends (c .before .pre .0))
 
 add-word-at-2 : tie.Need-add-word-at-2
-add-word-at-2 c = omega (arith, c .dims-of .ensures, box-ends (c .before .pre .0) (c .before .pre .1))
+add-word-at-2 c = omega (arith, c .dims-of .ensures, box-ends (c .before .pre .0))
 
 add-word-at-3 : tie.Need-add-word-at-3
-add-word-at-3 c = omega (arith, c .dims-of .ensures, box-ends (c .before .pre .0) (c .before .pre .1))
+add-word-at-3 c = omega (arith, c .dims-of .ensures, box-ends (c .before .pre .0))
 
 word-at-requires : tie.Need-word-at-requires
-word-at-requires c κs = omega (arith, c .dims-of .ensures, box-ends (c .before .pre .0) (c .before .pre .1))
+word-at-requires c κs = omega (arith, c .dims-of .ensures, box-ends (c .before .pre .0))
 
 returns : tie.Need-returns
 unfolding size
-returns c = read-back (c .word-at .ensures) (c .word-at .ok) ∙ rw (c .before .before .pre .1 .stands, c .before .dims-of .ensures)
+returns c = read-back (c .word-at .ensures) (c .word-at .ok) ∙ rw (c .before .before .pre .0 .stands, c .before .dims-of .ensures)
 
 pub size-of-spec : {M : Type 1} → statement M
 size-of-spec =

@@ -14,7 +14,7 @@ use Rattle.accept.proofs.block.bad_box.Statement.{statement}
 use Rattle.accept.proofs.block.bad_box.Tie as tie
 
 abbrev Inv-loop : tie.InvT-loop
-Inv-loop block n b₀ b = (b ≤ n) × (allBelow b (validBox (block)) ≡ true)
+Inv-loop block n b₀ b = (b ≤ n) × (allBelow b (validBox block) ≡ true)
 
 abbrev μ-loop : tie.MeasureT-loop
 μ-loop block n b₀ b = n - b
@@ -33,7 +33,7 @@ box-place-requires : tie.Need-box-place-requires Inv-loop μ-loop
 box-place-requires c κs = (c .before .before .before .pre, omega (arith, c .before .before .boxes-of .ensures))
 
 valid-box-requires : tie.Need-valid-box-requires Inv-loop μ-loop
-valid-box-requires c κs = (c .before .before .before .before .pre, c .box-place .ensures .0)
+valid-box-requires c κs = c .box-place .ensures .0
 
 returns : tie.Need-returns Inv-loop μ-loop
 unfolding badBox

@@ -14,7 +14,7 @@ use Rattle.accept.proofs.block.bad_rule.Statement.{statement}
 use Rattle.accept.proofs.block.bad_rule.Tie as tie
 
 abbrev Inv-loop : tie.InvT-loop
-Inv-loop block table n m r₀ r = (r ≤ m) × (allBelow r (validRule (block) (rows (block) table)) ≡ true)
+Inv-loop block table n m r₀ r = (r ≤ m) × (allBelow r (validRule block (rows block table)) ≡ true)
 
 abbrev μ-loop : tie.MeasureT-loop
 μ-loop block table n m r₀ r = m - r
@@ -39,8 +39,8 @@ rule-place-requires c κs = (c .before .before .before .before .pre .0, omega (a
 
 valid-rule-requires : tie.Need-valid-rule-requires Inv-loop μ-loop
 valid-rule-requires c κs =
-    let s = c .before .before .before .before .before in
-    (s .pre .0, c .rule-place .ensures .0, omega (arith, c .before .before .before .before .rows-of .ensures, s .pre .1 .few-rows))
+    let n = c .before .before .before .before in
+    (c .rule-place .ensures .0, omega (arith, n .rows-of .ensures, n .before .pre .1 .few-rows))
 
 returns : tie.Need-returns Inv-loop μ-loop
 unfolding badRule

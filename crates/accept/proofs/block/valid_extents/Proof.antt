@@ -12,7 +12,7 @@ use Rattle.accept.proofs.block.valid_extents.Statement.{statement}
 use Rattle.accept.proofs.block.valid_extents.Tie as tie
 
 abbrev Inv-loop : tie.InvT-loop
-Inv-loop block b k d₀ d = (d ≤ k) × (allBelow d (validExtent (block) (b .number)) ≡ true)
+Inv-loop block b k d₀ d = (d ≤ k) × (allBelow d (validExtent block (b .number)) ≡ true)
 
 abbrev μ-loop : tie.MeasureT-loop
 μ-loop block b k d₀ d = k - d
@@ -24,9 +24,7 @@ loop-holds : tie.Need-loop-holds Inv-loop μ-loop
 loop-holds c = (search needs, all-zero _)
 
 valid-extent-requires : tie.Need-valid-extent-requires Inv-loop μ-loop
-valid-extent-requires c κs =
-    let s = c .before .before .before .pre in
-    (s .0, s .1, omega (arith, c .before .before .dims-of .ensures))
+valid-extent-requires c κs = (c .before .before .before .pre, omega (arith, c .before .before .dims-of .ensures))
 
 returns : tie.Need-returns Inv-loop μ-loop
 returns c =

@@ -12,7 +12,7 @@ use Rattle.accept.proofs.block.valid_rooms.Statement.{statement}
 use Rattle.accept.proofs.block.valid_rooms.Tie as tie
 
 abbrev Inv-loop : tie.InvT-loop
-Inv-loop block r k d₀ d = (d ≤ k) × (allBelow d (validEnds (block) (r .number)) ≡ true)
+Inv-loop block r k d₀ d = (d ≤ k) × (allBelow d (validEnds block (r .number)) ≡ true)
 
 abbrev μ-loop : tie.MeasureT-loop
 μ-loop block r k d₀ d = k - d
@@ -24,9 +24,7 @@ loop-holds : tie.Need-loop-holds Inv-loop μ-loop
 loop-holds c = (search needs, all-zero _)
 
 valid-ends-requires : tie.Need-valid-ends-requires Inv-loop μ-loop
-valid-ends-requires c κs =
-    let s = c .before .before .before .pre in
-    (s .0, s .1, s .2, s .3, omega (arith, c .before .before .dims-of .ensures))
+valid-ends-requires c κs = (c .before .before .before .pre, omega (arith, c .before .before .dims-of .ensures))
 
 returns : tie.Need-returns Inv-loop μ-loop
 returns c =

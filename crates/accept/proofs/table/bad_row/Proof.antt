@@ -14,7 +14,7 @@ use Rattle.accept.proofs.table.bad_row.Statement.{statement}
 use Rattle.accept.proofs.table.bad_row.Tie as tie
 
 abbrev Inv-loop : tie.InvT-loop
-Inv-loop block table n flags i₀ i = (i ≤ n) × (allUpTo i (validRow (block) table) ≡ true)
+Inv-loop block table n flags i₀ i = (i ≤ n) × (allUpTo i (validRow block table) ≡ true)
 
 abbrev μ-loop : tie.MeasureT-loop
 μ-loop block table n flags i₀ i = n - i
@@ -40,13 +40,10 @@ add-row-place c = search needs
 row-place-requires : tie.Need-row-place-requires Inv-loop μ-loop
 row-place-requires c κs =
     let s = c .before .before .before .before .pre in
-    (s .0, s .1, omega arith, omega (arith, c .before .before .before .rows-of .ensures))
+    (s .0, s .1, record { from = omega arith; upto = omega (arith, c .before .before .before .rows-of .ensures) })
 
 valid-row-requires : tie.Need-valid-row-requires Inv-loop μ-loop
-valid-row-requires c κs =
-    let l = c .before .before in
-    let s = l .before .before .before .pre in
-    (s .0, s .1, c .row-place .ensures .0, l .before .boxed-shapes .ensures)
+valid-row-requires c κs = (c .row-place .ensures .0, c .before .before .before .boxed-shapes .ensures)
 
 returns : tie.Need-returns Inv-loop μ-loop
 unfolding badRow

@@ -15,7 +15,7 @@ use Rattle.accept.proofs.table.boxed_shapes.Statement.{statement}
 use Rattle.accept.proofs.table.boxed_shapes.Tie as tie
 
 abbrev Inv-loop : tie.InvT-loop
-Inv-loop block n flags₀ b₀ flags b = (b ≤ n) × Marks (block) b flags
+Inv-loop block n flags₀ b₀ flags b = (b ≤ n) × Marks block b flags
 
 abbrev μ-loop : tie.MeasureT-loop
 μ-loop block n flags₀ b₀ flags b = n - b
@@ -35,9 +35,7 @@ box-place-requires : tie.Need-box-place-requires Inv-loop μ-loop
 box-place-requires c κs = (c .before .before .before .pre .0, omega (arith, c .before .before .boxes-of .ensures))
 
 shape-number-requires : tie.Need-shape-number-requires Inv-loop μ-loop
-shape-number-requires c κs =
-    let s = c .before .before .before .before .pre in
-    (s .0, c .box-place .ensures .0, counted 1 32 (omega arith) (shape-in c))
+shape-number-requires c κs = (c .box-place .ensures .0, counted 1 32 (omega arith) (shape-in c))
 
 array-write-flags : tie.Need-array-write-flags Inv-loop μ-loop
 array-write-flags c = omega (arith, c .shape-number .ensures, nat-from _ (shape-in (c .before)))

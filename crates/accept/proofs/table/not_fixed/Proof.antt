@@ -10,12 +10,12 @@ use Rattle.integers.proofs.Below.{all-zero}
 use Rattle.sheet.specs.Placement.{rowFixed, fixed}
 use Rattle.sheet.specs.Refusal.{notFixed}
 use Rattle.accept.proofs.Turns.{fails-by, passes-by, upto-next, upto-false, all-done}
-use Rattle.accept.proofs.Asked.{set-count}
+use Rattle.sheet.proofs.Accepted.{set-count}
 use Rattle.accept.proofs.table.not_fixed.Statement.{statement}
 use Rattle.accept.proofs.table.not_fixed.Tie as tie
 
 abbrev Inv-loop : tie.InvT-loop
-Inv-loop block table n i₀ i = (i ≤ n) × (allUpTo i (rowFixed (block) table) ≡ true)
+Inv-loop block table n i₀ i = (i ≤ n) × (allUpTo i (rowFixed block table) ≡ true)
 
 abbrev μ-loop : tie.MeasureT-loop
 μ-loop block table n i₀ i = n - i
@@ -38,13 +38,12 @@ add-row-place c = search needs
 row-place-requires : tie.Need-row-place-requires Inv-loop μ-loop
 row-place-requires c κs =
     let s = c .before .before .before .pre in
-    (s .0, s .1 .whole, omega arith, omega (arith, c .before .before .rows-of .ensures))
+    (s .0, s .1 .whole, record { from = omega arith; upto = omega (arith, c .before .before .rows-of .ensures) })
 
 row-fixed-requires : tie.Need-row-fixed-requires Inv-loop μ-loop
 row-fixed-requires c κs =
-    let s = c .before .before .before .before .pre in
     let p = c .row-place .ensures .0 in
-    (s .0, s .1 .whole, p, set-count (s .1) (p .from) (p .upto))
+    (p, set-count (c .before .before .before .before .pre .1) (p .from) (p .upto))
 
 returns : tie.Need-returns Inv-loop μ-loop
 unfolding notFixed fixed

@@ -17,7 +17,7 @@ use Rattle.accept.proofs.table.row_fixed.Tie as tie
 one : (c : tie.After-shapes-of) → let a = c .before .args in
     eqb (ones (c .shapes-of .result)) 1 ≡ anyUpTo 32 (hasOnly (now (a .block)) (now (a .table)) (a .i .number))
 unfolding hasOnly
-one c = ap (λ (n : ℕ). eqb (ones n) 1) (c .shapes-of .ensures) ∙ one-shape _ (set-below 32 (c .before .pre .3 .upto))
+one c = ap (λ (n : ℕ). eqb (ones n) 1) (c .shapes-of .ensures) ∙ one-shape _ (set-below 32 (c .before .pre .1 .upto))
 
 shapes-of-requires : tie.Need-shapes-of-requires
 shapes-of-requires c κs = search needs

@@ -19,7 +19,7 @@ returns c = c .if1 .taken ∙ sym (implies-out _ (fails-by (c .before .has-shape
 returns-2 : tie.Need-returns-2
 returns-2 c =
     let s = c .before .before in
-    s .pre .4 .each (s .args .s) (omega arith) ∙ sym (implies-in _ (passes-by (c .before .has-shape .ensures) (c .if1 .left)))
+    s .pre .0 .flags-of .each (s .args .s) (omega arith) ∙ sym (implies-in _ (passes-by (c .before .has-shape .ensures) (c .if1 .left)))
 
 pub shape-boxed-spec : {M : Type 1} → statement M
 shape-boxed-spec = tie.close (tie.spec has-shape-requires array-read-result returns returns-2)

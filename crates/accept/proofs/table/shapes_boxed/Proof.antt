@@ -16,7 +16,7 @@ use Rattle.accept.proofs.table.shapes_boxed.Statement.{statement}
 use Rattle.accept.proofs.table.shapes_boxed.Tie as tie
 
 abbrev Inv-loop : tie.InvT-loop
-Inv-loop block table i flags set s₀ s = (s ≤ 32) × (allUpTo s (shapeBoxed (block) table (i .number)) ≡ true)
+Inv-loop block table i flags set s₀ s = (s ≤ 32) × (allUpTo s (shapeBoxed block table (i .number)) ≡ true)
 
 abbrev μ-loop : tie.MeasureT-loop
 μ-loop block table i flags set s₀ s = 32 - s
@@ -25,7 +25,7 @@ abbrev test : tie.At-loop Inv-loop μ-loop → ℕ → Bool
 test c = let a = c .before .before .args in shapeBoxed (now (a .block)) (now (a .table)) (a .i .number)
 
 shapes-of-requires : tie.Need-shapes-of-requires Inv-loop μ-loop
-shapes-of-requires c κs = let s = c .pre in (s .0, s .1, s .2, s .3)
+shapes-of-requires c κs = (c .pre .place, c .pre .set-count)
 
 loop-holds : tie.Need-loop-holds Inv-loop μ-loop
 loop-holds c = (search needs, all-zero _)
@@ -42,19 +42,19 @@ returns c =
     let p = l .before .before .pre in
     let h = subst (λ (n : ℕ). n < 2 ^ l .loop .s) (l .before .shapes-of .ensures) (b .is-below .ensures .0 (c .if1 .taken)) in
     sym (at-upto (test l) (λ m from upto. ⊎-elim
-    (λ k. implies-out (boxed (now (a .block)) m) (none-past _ (now (a .table)) (a .i .number) (p .3) h k))
+    (λ k. implies-out (boxed (now (a .block)) m) (none-past _ (now (a .table)) (a .i .number) (p .set-count) h k))
     (λ k. upto-at (test l) (l .loop .inv .1) m from k) (below-or (l .loop .s) m)))
 
 add-shape-boxed : tie.Need-add-shape-boxed Inv-loop μ-loop
 add-shape-boxed c = search needs
 
 shape-boxed-requires : tie.Need-shape-boxed-requires Inv-loop μ-loop
-shape-boxed-requires c κs = let s = c .before .before .before .before .before .pre in (s .0, s .1, s .2, s .3, s .4, omega arith, omega arith)
+shape-boxed-requires c κs = (c .before .before .before .before .before .pre, record { from = omega arith; upto = omega arith })
 
 returns-2 : tie.Need-returns-2 Inv-loop μ-loop
 returns-2 c =
-    let l = c .before .before .before .before .before in
-    sym (upto-false (test l) (c .before .before .before .before .loop-test .taken) (fails-by (c .before .shape-boxed .ensures) (c .if2 .taken)))
+    let w = c .before .before .before .before in
+    sym (upto-false (test (w .before)) (w .loop-test .taken) (fails-by (c .before .shape-boxed .ensures) (c .if2 .taken)))
 
 add-s : tie.Need-add-s Inv-loop μ-loop
 add-s c = search needs

@@ -14,7 +14,7 @@ use Rattle.accept.proofs.table.valid_ranges.Statement.{statement}
 use Rattle.accept.proofs.table.valid_ranges.Tie as tie
 
 abbrev Inv-loop : tie.InvT-loop
-Inv-loop block table i k d₀ d = (d ≤ k) × (allBelow d (validRowRange (block) table (i .number)) ≡ true)
+Inv-loop block table i k d₀ d = (d ≤ k) × (allBelow d (validRowRange block table (i .number)) ≡ true)
 
 abbrev μ-loop : tie.MeasureT-loop
 μ-loop block table i k d₀ d = k - d
@@ -34,14 +34,10 @@ loop-holds : tie.Need-loop-holds Inv-loop μ-loop
 loop-holds c = (search needs, all-zero _)
 
 low-of-requires : tie.Need-low-of-requires Inv-loop μ-loop
-low-of-requires c κs =
-    let s = c .before .before .before .pre in
-    (s .0, s .1, s .2, omega (arith, c .before .before .axes-of .ensures))
+low-of-requires c κs = (c .before .before .before .pre, omega (arith, c .before .before .axes-of .ensures))
 
 high-of-requires : tie.Need-high-of-requires Inv-loop μ-loop
-high-of-requires c κs =
-    let s = c .before .before .before .before .pre in
-    (s .0, s .1, s .2, omega (arith, c .before .before .before .axes-of .ensures))
+high-of-requires c κs = (c .before .before .before .before .pre, omega (arith, c .before .before .before .axes-of .ensures))
 
 valid-range-requires : tie.Need-valid-range-requires Inv-loop μ-loop
 valid-range-requires c κs = search needs

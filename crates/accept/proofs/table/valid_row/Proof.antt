@@ -32,7 +32,11 @@ returns c = sym (rw (fails-by (set-in (c .before)) (c .if1 .taken)))
 shapes-boxed-requires : tie.Need-shapes-boxed-requires
 shapes-boxed-requires c κs =
     let s = c .before .before .before .pre in
-    (s .0, s .1, s .2, counted 1 4294967295 (omega arith) (passes-by (set-in (c .before)) (c .if1 .left)), s .3)
+    record {
+      place = s .0;
+      set-count = counted 1 4294967295 (omega arith) (passes-by (set-in (c .before)) (c .if1 .left));
+      flags-of = s .1;
+    }
 
 valid-ranges-requires : tie.Need-valid-ranges-requires
 valid-ranges-requires c κs = search needs

@@ -19,13 +19,13 @@ low-of-requires : tie.Need-low-of-requires
 low-of-requires c κs =
     let s = c .before .before .before in
     let w = s .pre .0 in
-    (w .accepted .head, w .table .whole, w .other-row, axis (now (s .args .block)) (s .pre .1))
+    (w .other-row, axis (now (s .args .block)) (s .pre .1))
 
 high-of-requires : tie.Need-high-of-requires
 high-of-requires c κs =
     let s = c .before .before .before .before in
     let w = s .pre .0 in
-    (w .accepted .head, w .table .whole, w .other-row, axis (now (s .args .block)) (s .pre .1))
+    (w .other-row, axis (now (s .args .block)) (s .pre .1))
 
 overlapping-requires : tie.Need-overlapping-requires
 overlapping-requires c κs =

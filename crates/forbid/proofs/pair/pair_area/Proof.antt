@@ -58,7 +58,7 @@ module _ (c : tie.In-loop Inv-loop μ-loop) where
   few = omega (arith, is-dim, top .pre .accepted .head .few-dims)
 
 names-dim-requires : tie.Need-names-dim-requires Inv-loop μ-loop
-names-dim-requires c κs = let w = top c .pre in (w .accepted .head, w .rule, w .accepted .dim-sets _ (w .rule .below), is-dim c)
+names-dim-requires c κs = let w = top c .pre in (w .rule, w .accepted .dim-sets _ (w .rule .below), is-dim c)
 
 interval-of-requires : tie.Need-interval-of-requires Inv-loop μ-loop
 interval-of-requires c κs = let l = c .before .before in (top l .pre, is-dim l)

@@ -11,7 +11,7 @@ names-dim-requires : tie.Need-names-dim-requires
 names-dim-requires c κs =
     let s = c .before in
     let w = s .pre .0 in
-    (w .accepted .head, w .rule, w .accepted .dim-sets _ (w .rule .below), s .pre .1)
+    (w .rule, w .accepted .dim-sets _ (w .rule .below), s .pre .1)
 
 returns : tie.Need-returns
 unfolding sideForbids

@@ -15,7 +15,7 @@ names-dim-requires : tie.Need-names-dim-requires
 names-dim-requires c κs =
     let s = c .before in
     let w = s .pre .0 in
-    (w .accepted .head, w .rule, w .accepted .dim-sets _ (w .rule .below), s .pre .2)
+    (w .rule, w .accepted .dim-sets _ (w .rule .below), s .pre .2)
 
 returns : tie.Need-returns
 returns c e = clash refl e
@@ -26,14 +26,12 @@ interval-of-requires c κs = search needs
 low-of-requires : tie.Need-low-of-requires
 low-of-requires c κs =
     let s = c .before .before .before .before in
-    let w = s .pre .0 in
-    (w .accepted .head, w .table .whole, s .pre .1, axis (now (s .args .block)) (s .pre .2))
+    (s .pre .1, axis (now (s .args .block)) (s .pre .2))
 
 high-of-requires : tie.Need-high-of-requires
 high-of-requires c κs =
     let s = c .before .before .before .before .before in
-    let w = s .pre .0 in
-    (w .accepted .head, w .table .whole, s .pre .1, axis (now (s .args .block)) (s .pre .2))
+    (s .pre .1, axis (now (s .args .block)) (s .pre .2))
 
 is-apart-requires : tie.Need-is-apart-requires
 is-apart-requires c κs = search needs

@@ -1,7 +1,7 @@
 -- `row::only_shape` meets its contract: a set with a single one holds one number, where its trailing zeros end. Assumes nothing.
 use native.Mathlib.Omega.{arith}
 use lib.Count.{trailing-le}
-use Rattle.integers.proofs.Ints.{ints}
+use Rattle.sheet.proofs.Accepted.{set-count}
 use Rattle.forbid.proofs.Rows.{single-shape, several-shapes}
 use Rattle.forbid.proofs.row.only_shape.Statement.{statement}
 use Rattle.forbid.proofs.row.only_shape.Tie as tie
@@ -9,8 +9,7 @@ use Rattle.forbid.proofs.row.only_shape.Tie as tie
 shapes-of-requires : tie.Need-shapes-of-requires
 shapes-of-requires c κs =
     let j = c .pre .2 in
-    let from = c .pre .1 .sets-from _ (j .from) (j .upto) in
-    (c .pre .0 .head, c .pre .1 .whole, j, record { from = omega ints; upto = c .pre .1 .sets-upto _ (j .from) (j .upto) })
+    (j, set-count (c .pre .1) (j .from) (j .upto))
 
 cast-result : tie.Need-cast-result
 cast-result c = omega (arith, trailing-le 32 (c .before .shapes-of .result))

@@ -1,7 +1,7 @@
 -- `row::row_region` meets its contract: the row itself and a row that is not named forbid nothing. Assumes nothing.
 use mathlib.Core.Path.{sym, _∙_}
-use native.Mathlib.Omega.{arith}
 use Rattle.integers.proofs.Booleans.{not-true, not-false}
+use Rattle.words.proofs.Ends.{row-bit}
 use Rattle.forbid.proofs.Regions.{missed, forbids-same}
 use Rattle.forbid.proofs.Rows.{itself-none, unnamed-none, named-set}
 use Rattle.forbid.proofs.row.row_region.Statement.{statement}
@@ -16,8 +16,7 @@ returns c = missed (itself-none _ _ _ _ _ _ (sym (c .before .if1 .taken)) _) (c 
 names-row-requires : tie.Need-names-row-requires
 names-row-requires c κs =
     let w = c .before .pre in
-    let a = w .asked in
-    (a .accepted .head, w .rule, a .accepted .row-sets _ (w .rule .below), w .row .from, omega (arith, w .row .upto, a .table .whole .few-rows))
+    (w .rule, w .at-point .accepted .row-sets _ (w .rule .below), row-bit (w .row))
 
 none-requires-2 : tie.Need-none-requires-2
 none-requires-2 c κs = tt

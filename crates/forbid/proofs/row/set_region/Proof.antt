@@ -5,7 +5,7 @@ use Rattle.forbid.proofs.row.set_region.Statement.{statement}
 use Rattle.forbid.proofs.row.set_region.Tie as tie
 
 only-shape-requires : tie.Need-only-shape-requires
-only-shape-requires c κs = (c .pre .asked .accepted, c .pre .asked .table, c .pre .row)
+only-shape-requires c κs = (c .pre .at-point .accepted, c .pre .at-point .table, c .pre .row)
 
 none-requires : tie.Need-none-requires
 none-requires c κs = tt
@@ -16,7 +16,7 @@ returns c = λ i. missed (several-none _ _ _ i _ _ (c .before .before .only-shap
 shapes-region-requires : tie.Need-shapes-region-requires
 shapes-region-requires c κs =
     let w = c .before .before .pre in
-    (w, single-boxed _ _ (w .asked .table) (c .before .only-shape .ensures) (w .row .from) (w .row .upto) (c .if1 .left))
+    (w, single-boxed _ _ (w .at-point .table) (c .before .only-shape .ensures) (w .row .from) (w .row .upto) (c .if1 .left))
 
 returns-2 : tie.Need-returns-2
 returns-2 c =

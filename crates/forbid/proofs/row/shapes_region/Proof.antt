@@ -49,13 +49,13 @@ module _ (c : tie.In-loop Inv-loop μ-loop Inv-pairs μ-pairs) where
       (record { r = top out .args .r; own = c .before .loop .own; j = top out .args .j; other = out .before .pairs .other })
   places =
       let w = top out .pre .0 in
-      box-places (w .asked .accepted) (w .asked .table) (w .asked .outline) (w .rule) (w .row) own-below (other-below out)
+      box-places (w .at-point .accepted) (w .at-point .table) (w .at-point .outline) (w .rule) (w .row) own-below (other-below out)
 
 boxes-of-requires : tie.Need-boxes-of-requires Inv-loop μ-loop Inv-pairs μ-pairs
-boxes-of-requires c κs = c .pre .0 .asked .accepted .head
+boxes-of-requires c κs = c .pre .0 .at-point .accepted .head
 
 hull-of-requires : tie.Need-hull-of-requires Inv-loop μ-loop Inv-pairs μ-pairs
-hull-of-requires c κs = let w = c .before .pre .0 .asked in shape-few (w .accepted) (w .own)
+hull-of-requires c κs = let w = c .before .pre .0 .at-point in shape-few (w .accepted) (w .own)
 
 none-requires : tie.Need-none-requires Inv-loop μ-loop Inv-pairs μ-pairs
 none-requires c κs = tt
@@ -63,7 +63,7 @@ none-requires c κs = tt
 first-of-requires : tie.Need-first-of-requires Inv-loop μ-loop Inv-pairs μ-pairs
 first-of-requires c κs =
     let s = c .before .before .before in
-    let w = s .pre .0 .asked in
+    let w = s .pre .0 .at-point in
     (w .outline .chained, shape-few (w .accepted) (s .pre .1))
 
 pairs-holds : tie.Need-pairs-holds Inv-loop μ-loop Inv-pairs μ-pairs
@@ -72,12 +72,12 @@ pairs-holds c = (c .before .none .ensures, walk-first (c .first-of .ensures))
 pair-forbids-requires : tie.Need-pair-forbids-requires Inv-loop μ-loop Inv-pairs μ-pairs
 pair-forbids-requires c κs =
     let w = top c .pre .0 in
-    let a = w .asked in
+    let a = w .at-point in
     let hull = c .before .before .before .before .hull-of .ensures in
     hull-box-places (a .accepted) (a .table) (a .outline) (w .rule) (w .row) hull (a .own) (other-below c)
 
 first-of-requires-2 : tie.Need-first-of-requires-2 Inv-loop μ-loop Inv-pairs μ-pairs
-first-of-requires-2 c κs = let w = top (c .before .before) .pre .0 .asked in (w .outline .chained, shape-few (w .accepted) (w .own))
+first-of-requires-2 c κs = let w = top (c .before .before) .pre .0 .at-point in (w .outline .chained, shape-few (w .accepted) (w .own))
 
 loop-holds : tie.Need-loop-holds Inv-loop μ-loop Inv-pairs μ-pairs
 loop-holds c = (refl, walk-first (c .first-of2 .ensures))
@@ -91,8 +91,8 @@ pair-area-requires c κs = places (c .before .before)
 after-requires : tie.Need-after-requires Inv-loop μ-loop Inv-pairs μ-pairs
 after-requires c κs =
     let l = c .before .before in
-    let w = top (out l) .pre .0 .asked in
-    (w .accepted .head, w .outline .chained, own-below l, l .before .loop .inv .1 .is (own-below l))
+    let w = top (out l) .pre .0 .at-point in
+    record { head = w .accepted .head; chained = w .outline .chained; below = own-below l; is = l .before .loop .inv .1 .is (own-below l) }
 
 loop-less : tie.Need-loop-less Inv-loop μ-loop Inv-pairs μ-pairs
 loop-less c = omega (arith, c .after .ensures .0, c .before .before .before .loop-test .taken)
@@ -106,8 +106,8 @@ loop-again c =
 after-requires-2 : tie.Need-after-requires-2 Inv-loop μ-loop Inv-pairs μ-pairs
 after-requires-2 c κs =
     let l = c .before .before in
-    let w = top l .pre .0 .asked in
-    (w .accepted .head, w .outline .chained, other-below l, l .before .pairs .inv .1 .is (other-below l))
+    let w = top l .pre .0 .at-point in
+    record { head = w .accepted .head; chained = w .outline .chained; below = other-below l; is = l .before .pairs .inv .1 .is (other-below l) }
 
 pairs-less : tie.Need-pairs-less Inv-loop μ-loop Inv-pairs μ-pairs
 pairs-less c = omega (arith, c .after2 .ensures .0, c .before .before .before .pairs-test .taken)
@@ -117,7 +117,7 @@ pairs-again c =
     let f = c .before .before in
     let l = f .before in
     let i = l .before .pairs .inv in
-    let w = top l .pre .0 .asked in
+    let w = top l .pre .0 .at-point in
     let h = l .before .before .before .before in (
       ⊎-elim (λ x. x .4 ∙ x .2 .inv .0 ∙ i .0) (λ x. x .1 ∙ i .0) (c .before .if1 .came),
       walk-next (i .1)
@@ -132,14 +132,14 @@ returns : tie.Need-returns Inv-loop μ-loop Inv-pairs μ-pairs
 returns c =
     let l = c .before in
     let n = l .before .before .before .before in
-    λ i. missed (all-clear _ _ _ _ _ _ _ (n .before .pre .0 .asked .outline) i
+    λ i. missed (all-clear _ _ _ _ _ _ _ (n .before .pre .0 .at-point .outline) i
     (walk-over (l .pairs .inv .1) (omega (arith, n .boxes-of .ensures, c .pairs-test .left)))) (l .pairs .inv .0)
 
 returns-2 : tie.Need-returns-2 Inv-loop μ-loop Inv-pairs μ-pairs
 returns-2 c =
     let f = c .before .before in
     let l = f .before in
-    let w = top (out l) .pre .0 .asked in
+    let w = top (out l) .pre .0 .at-point in
     λ i. forbids-by (λ q e. shapes-by _ _ _ _ _ _ _ q (record {
       own = l .before .loop .own;
       other = out l .before .pairs .other;

@@ -7,6 +7,7 @@ use borrow.Author.Needs.{needs}
 use Rattle.integers.proofs.Booleans.{not-true, not-false}
 use Rattle.outline.proofs.Solids.{shape-few}
 use Rattle.forbid.proofs.Rows.{itself-none, unnamed-none, named-set, several-none}
+use Rattle.words.proofs.Ends.{row-bit}
 use Rattle.nearby.proofs.Threats.{Rival, rival-boxed, rival-places, rival-set, rival-clear, rival-threat}
 use Rattle.nearby.proofs.Gathers.{grows-none, grows-clear, grows-by}
 use Rattle.nearby.proofs.gather.add_row.Statement.{statement}
@@ -18,9 +19,8 @@ returns c = grows-none (itself-none _ _ _ _ _ _ (c .if1 .taken))
 names-row-requires : tie.Need-names-row-requires
 names-row-requires c κs =
     let p = c .before .before .pre in
-    let w = p .0 .subject in
     let r = p .1 .rule in
-    (w .accepted .head, r, w .accepted .row-sets _ (r .below), p .2 .from, omega (arith, p .2 .upto, w .table .whole .few-rows))
+    (r, p .0 .subject .accepted .row-sets _ (r .below), row-bit (p .2))
 
 returns-2 : tie.Need-returns-2
 returns-2 c =

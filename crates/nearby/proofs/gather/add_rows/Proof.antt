@@ -10,6 +10,7 @@ use Rattle.integers.specs.Below.{anyBelow}
 use Rattle.sheet.specs.Layout.{rows}
 use Rattle.sheet.specs.Allowed.{rowForbids}
 use Rattle.forbid.specs.Region.{rowsForbid}
+use Rattle.integers.proofs.Below.{up-next}
 use Rattle.nearby.specs.Adding.{Open, Grows}
 use Rattle.nearby.proofs.Gathers.{grows-start, grows-more, open-after}
 use Rattle.nearby.proofs.gather.add_rows.Statement.{statement}
@@ -47,7 +48,7 @@ add-row-place c = search needs
 row-place-requires : tie.Need-row-place-requires Inv-loop μ-loop
 row-place-requires c κs =
     let w = start c .pre .0 .subject in
-    (w .accepted .head, w .table .whole, omega arith, omega (arith, c .before .before .rows-of .ensures, c .loop-test .taken))
+    (w .accepted .head, w .table .whole, up-next (omega (arith, c .before .before .rows-of .ensures, c .loop-test .taken)))
 
 add-row-requires : tie.Need-add-row-requires Inv-loop μ-loop
 add-row-requires c κs =

@@ -13,6 +13,7 @@ use Rattle.integers.proofs.Booleans.{clash, not-true, not-false, and-true, fail
 use Rattle.sheet.specs.Layout.{isNonOverlap, namesRow}
 use Rattle.outline.specs.Places.{rulesAt}
 use Rattle.forbid.specs.Region.{ruleForbids, rowsForbid}
+use Rattle.words.proofs.Ends.{row-bit}
 use Rattle.nearby.proofs.Gathers.{grows-none, grows-by}
 use Rattle.nearby.proofs.gather.add_rule.Statement.{statement}
 use Rattle.nearby.proofs.gather.add_rule.Tie as tie
@@ -29,7 +30,7 @@ rule-place-requires c κs = let p = c .before .before .pre in (p .0 .subject .ac
 is-non-overlap-of-requires : tie.Need-is-non-overlap-of-requires
 is-non-overlap-of-requires c κs =
     let w = c .before .before .before .pre .0 .subject in
-    (w .accepted, c .rule-place .ensures .0, w .row .from, omega (arith, w .row .upto, w .table .whole .few-rows))
+    (w .accepted, c .rule-place .ensures .0, row-bit (w .row))
 
 -- what the test of the rule tells
 abbrev start : tie.After-is-non-overlap-of → tie.Start

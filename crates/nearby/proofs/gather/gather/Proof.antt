@@ -34,8 +34,8 @@ Inv-loop block table outline suspects₀ known₀ i s q n counted found₀ r₀ 
 abbrev μ-loop : tie.MeasureT-loop
 μ-loop block table outline suspects₀ known₀ i s q n counted found₀ r₀ suspects known found r = n - r
 
-clear-requires : tie.Need-clear-requires Inv-loop μ-loop
-clear-requires c κs = search needs
+forget-requires : tie.Need-forget-requires Inv-loop μ-loop
+forget-requires c κs = search needs
 
 rules-of-requires : tie.Need-rules-of-requires Inv-loop μ-loop
 rules-of-requires c κs = c .before .before .pre .accepted .head
@@ -48,8 +48,8 @@ abbrev start : tie.After-counting Inv-loop μ-loop → tie.Start Inv-loop μ-loo
 start c = c .before .before .before .before
 
 begin : (c : tie.After-counting Inv-loop μ-loop) → let a = start c .args in
-    Open (now (a .block)) (now (a .table)) (a .i .number) (a .s) (now (a .suspects)) (c .before .before .clear .last .0) 0
-begin c = let e = c .before .before .clear .ensures in gathered-start (known-none (e .0) (e .1))
+    Open (now (a .block)) (now (a .table)) (a .i .number) (a .s) (now (a .suspects)) (c .before .before .forget .last .0) 0
+begin c = let e = c .before .before .forget .ensures in gathered-start (known-none (e .0) (e .1))
 
 loop-holds : tie.Need-loop-holds Inv-loop μ-loop
 loop-holds c =
@@ -134,7 +134,7 @@ gather-spec =
     (tie.spec
     Inv-loop
     μ-loop
-    clear-requires
+    forget-requires
     rules-of-requires
     counting-requires
     loop-holds

@@ -12,7 +12,7 @@ use mir.Syntax.{w64}
 use mir.Val.{toZ}
 use mir.Facts.{toZ-pos}
 use Rattle.nearby.specs.Places.{suspectAt}
-use Rattle.nearby.proofs.Runs.{same-none, same-set, same-then}
+use Rattle.points.proofs.Runs.{same-none, same-set, same-then}
 use Rattle.nearby.proofs.suspect.put_suspect.Statement.{statement}
 use Rattle.nearby.proofs.suspect.put_suspect.Tie as tie
 

@@ -21,21 +21,21 @@ use Rattle.nearby.proofs.suspect.suspected_region.Statement.{statement}
 use Rattle.nearby.proofs.suspect.suspected_region.Tie as tie
 
 -- suspect m forbids p to no row with shape s, if its area holds p
-abbrev Clear : List ℤ → List ℤ → List ℤ → List ℤ → ℕ → ℕ → Type 0
-Clear block table list p s m =
+abbrev Silent : List ℤ → List ℤ → List ℤ → List ℤ → ℕ → ℕ → Type 0
+Silent block table list p s m =
     (i : ℕ) → inArea (axes block) (suspectArea list m) p ≡ true → setForbids block table (ruleOf list m) p i s (rowOf list m) ≡ false
 
 abbrev Inv-loop : tie.InvT-loop
-Inv-loop block table outline suspects p k s whole count e₀ e = (e ≤ count) × ((m : ℕ) → m < e → Clear block table suspects p s m)
+Inv-loop block table outline suspects p k s whole count e₀ e = (e ≤ count) × ((m : ℕ) → m < e → Silent block table suspects p s m)
 
 abbrev μ-loop : tie.MeasureT-loop
 μ-loop block table outline suspects p k s whole count e₀ e = count - e
 
 axes-of-requires : tie.Need-axes-of-requires Inv-loop μ-loop
-axes-of-requires c κs = c .pre .asked .accepted .head
+axes-of-requires c κs = c .pre .at-point .accepted .head
 
 forbidding-region-requires : tie.Need-forbidding-region-requires Inv-loop μ-loop
-forbidding-region-requires c κs = let p = c .before .before .before .pre in (p .asked, p .row)
+forbidding-region-requires c κs = let p = c .before .before .before .pre in (p .at-point, p .row)
 
 returns : tie.Need-returns Inv-loop μ-loop
 returns c = c .forbidding-region .ensures
@@ -65,7 +65,7 @@ add-area-holds c = omega (arith, room c)
 
 area-holds-requires : tie.Need-area-holds-requires Inv-loop μ-loop
 area-holds-requires c κs =
-    (omega (arith, room c), omega (arith, start c .pre .asked .accepted .head .few-axes, c .before .before .before .before .axes-of .ensures))
+    (omega (arith, room c), omega (arith, start c .pre .at-point .accepted .head .few-axes, c .before .before .before .before .axes-of .ensures))
 
 count-at-requires : tie.Need-count-at-requires Inv-loop μ-loop
 count-at-requires c κs = let l = c .before .before in (omega (arith, room l), is l .rule-count)
@@ -73,7 +73,7 @@ count-at-requires c κs = let l = c .before .before in (omega (arith, room l), i
 rule-place-requires : tie.Need-rule-place-requires Inv-loop μ-loop
 rule-place-requires c κs =
     let l = c .before .before .before in
-    (start l .pre .asked .accepted .head, omega (arith, c .count-at .ensures, is l .rule))
+    (start l .pre .at-point .accepted .head, omega (arith, c .count-at .ensures, is l .rule))
 
 add-count-at : tie.Need-add-count-at Inv-loop μ-loop
 add-count-at c = omega (arith, room (c .before .before .before .before))
@@ -84,14 +84,14 @@ count-at-requires-2 c κs = let l = c .before .before .before .before in (omega 
 row-place-requires : tie.Need-row-place-requires Inv-loop μ-loop
 row-place-requires c κs =
     let l = c .before .before .before .before .before in
-    let p = start l .pre .asked in
-    (p .accepted .head, p .table .whole, omega (arith, c .count-at2 .ensures, is l .from), omega (arith, c .count-at2 .ensures, is l .upto))
+    let p = start l .pre .at-point in
+    (p .accepted .head, p .table .whole, rw (c .count-at2 .ensures) (record { from = is l .from; upto = is l .upto }))
 
 set-region-requires : tie.Need-set-region-requires Inv-loop μ-loop
 set-region-requires c κs =
     let r = c .before .before in
     record {
-      asked = start (r .before .before .before .before) .pre .asked;
+      at-point = start (r .before .before .before .before) .pre .at-point;
       rule = r .rule-place .ensures .0;
       row = c .row-place .ensures .0;
     }
@@ -123,7 +123,7 @@ loop-again c =
     let a = start l .args in
     let block = now (a .block) in
     let list = now (a .suspects) in
-    let clear : Clear block (now (a .table)) list (a .p) (a .nearby .s) (at l) = λ i e. ⊎-elim
+    let silent : Silent block (now (a .table)) list (a .p) (a .nearby .s) (at l) = λ i e. ⊎-elim
     (λ w. sym (ap₂ (λ (m n : ℕ). setForbids block (now (a .table)) m (a .p) i (a .nearby .s) n)
     (w .2 .ensures .1 ∙ w .1 .ensures) (w .4 .ensures .1 ∙ w .3 .ensures))
     ∙ miss (w .5 .ensures i) (w .6 .left))
@@ -132,7 +132,7 @@ loop-again c =
     (c .if2 .came) in (
       omega (arith, l .loop-test .taken),
       λ m h. ⊎-elim
-          (λ q. subst (Clear block (now (a .table)) list (a .p) (a .nearby .s)) (sym q) clear)
+          (λ q. subst (Silent block (now (a .table)) list (a .p) (a .nearby .s)) (sym q) silent)
           (λ k. l .before .loop .inv .1 m k)
           (last-or (subst (λ (n : ℕ). m < n) (add-one (at l)) h)),
     )

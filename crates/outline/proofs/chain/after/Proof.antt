@@ -6,17 +6,17 @@ use Rattle.outline.proofs.chain.after.Tie as tie
 count-at-requires : tie.Need-count-at-requires
 count-at-requires c κs =
     let p = c .before .pre in
-    (omega (arith, p .2, p .0 .few-boxes, c .before .good), p .1 .next-count _ (omega arith) (p .2))
+    (omega (arith, p .below, p .head .few-boxes, c .before .good), p .chained .next-count _ (omega arith) (p .below))
 
 returns : tie.Need-returns
 returns c =
     let p = c .before .before .pre in
-    let i = p .1 in
+    let i = p .chained in
     let e = c .count-at .ensures in (
-      rw e (i .next-after _ (omega arith) (p .2)),
-      rw e (i .next-upto _ (omega arith) (p .2)),
-      λ n. rw e (i .next-is _ _ (omega arith) (p .2) (p .3) (rw e at n)),
-      λ x from upto. i .next-skips _ _ x (omega arith) (p .2) (p .3) from (rw e at upto),
+      rw e (i .next-after _ (omega arith) (p .below)),
+      rw e (i .next-upto _ (omega arith) (p .below)),
+      λ n. rw e (i .next-is _ _ (omega arith) (p .below) (p .is) (rw e at n)),
+      λ x from upto. i .next-skips _ _ x (omega arith) (p .below) (p .is) from (rw e at upto),
     )
 
 pub after-spec : {M : Type 1} → statement M

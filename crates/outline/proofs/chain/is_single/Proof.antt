@@ -29,7 +29,7 @@ after-requires : tie.Need-after-requires
 after-requires c κs =
     let f = c .before in
     let s = f .before .before in
-    (s .pre .0, s .pre .1, below c, f .first-of .ensures .1 (below c))
+    record { head = s .pre .0; chained = s .pre .1; below = below c; is = f .first-of .ensures .1 (below c) }
 
 returns-2 : tie.Need-returns-2
 returns-2 c e =

@@ -20,7 +20,7 @@ box-place-requires c κs = search needs
 
 shape-number-requires : tie.Need-shape-number-requires
 shape-number-requires c κs =
-    let s = c .before in (s .pre .0 .head, c .box-place .ensures .0, s .pre .0 .shapes _ (c .box-place .ensures .0 .below))
+    let x = c .box-place .ensures .0 in (x, c .before .pre .0 .shapes _ (x .below))
 
 -- the box's shape
 module _ (c : tie.After-shape-number) where

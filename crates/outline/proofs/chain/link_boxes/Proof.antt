@@ -18,16 +18,16 @@ abbrev μ-loop : tie.MeasureT-loop
 boxes-of-requires : tie.Need-boxes-of-requires Inv-loop μ-loop
 boxes-of-requires c κs = c .pre .head
 
-clear-requires : tie.Need-clear-requires Inv-loop μ-loop
-clear-requires c κs = let b = c .before in omega (arith, b .boxes-of .ensures, b .before .pre .head .few-boxes)
+unlink-requires : tie.Need-unlink-requires Inv-loop μ-loop
+unlink-requires c κs = let b = c .before in omega (arith, b .boxes-of .ensures, b .before .pre .head .few-boxes)
 
 loop-holds : tie.Need-loop-holds Inv-loop μ-loop
 loop-holds c =
     let q = c .before .before in
     let s = q .before in (
       omega arith,
-      subst (ChainedFrom (now (s .args .block)) (c .clear .last .0)) (sym (q .boxes-of .ensures))
-          (chained-start (s .pre .head .few-boxes) (λ t k. c .clear .ensures t k ∙ ap pos (q .boxes-of .ensures))),
+      subst (ChainedFrom (now (s .args .block)) (c .unlink .last .0)) (sym (q .boxes-of .ensures))
+          (chained-start (s .pre .head .few-boxes) (λ t k. c .unlink .ensures t k ∙ ap pos (q .boxes-of .ensures))),
     )
 
 sub-b : tie.Need-sub-b Inv-loop μ-loop
@@ -63,7 +63,7 @@ link-boxes-spec =
     Inv-loop
     μ-loop
     boxes-of-requires
-    clear-requires
+    unlink-requires
     loop-holds
     sub-b
     link-requires

@@ -16,7 +16,7 @@ rule-place-requires c κs = (c .pre .0 .head, c .pre .1)
 
 is-non-overlap-requires : tie.Need-is-non-overlap-requires
 is-non-overlap-requires c κs =
-    let p = c .rule-place .ensures .0 in (c .before .pre .0 .head, p, c .before .pre .0 .kinds _ (p .below))
+    let p = c .rule-place .ensures .0 in (p, c .before .pre .0 .kinds _ (p .below))
 
 -- the test's answer, of rule r
 kind-test : (c : tie.After-is-non-overlap) → let a = c .before .before .args in

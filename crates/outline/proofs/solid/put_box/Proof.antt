@@ -62,10 +62,10 @@ module _ (c : tie.In-loop Inv-loop μ-loop) where
   small = omega (arith, below, start .pre .0 .head .few-dims)
 
 offset-of-requires : tie.Need-offset-of-requires Inv-loop μ-loop
-offset-of-requires c κs = (start c .pre .0 .head, place c .box-place .ensures .0, below c)
+offset-of-requires c κs = (place c .box-place .ensures .0, below c)
 
 size-of-requires : tie.Need-size-of-requires Inv-loop μ-loop
-size-of-requires c κs = let i = c .before in (start i .pre .0 .head, place i .box-place .ensures .0, below i)
+size-of-requires c κs = let i = c .before in (place i .box-place .ensures .0, below i)
 
 -- the box's extent
 module _ (c : tie.After-size-of Inv-loop μ-loop) where

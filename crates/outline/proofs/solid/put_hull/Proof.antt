@@ -6,6 +6,7 @@ use native.Mathlib.Omega.{arith}
 use denote.Ref.{now}
 use lib.IntN.{ℤ}
 use Rattle.sheet.specs.Layout.{dims, boxes}
+use Rattle.points.specs.Area.{coordinates}
 use Rattle.outline.specs.declared.solid.Extent.{Extent}
 use Rattle.outline.specs.Places.{shapesMost, solidAt}
 use Rattle.outline.specs.Solids.{Spans}
@@ -25,10 +26,10 @@ abbrev μ-loop : tie.MeasureT-loop
 μ-loop block outline₀ s k at d₀ outline d = k - d
 
 dims-of-requires : tie.Need-dims-of-requires Inv-loop μ-loop
-dims-of-requires c κs = c .pre .0 .head
+dims-of-requires c κs = c .pre .accepted .head
 
 few : (s : tie.Start Inv-loop μ-loop) → s .args .s < shapesMost
-few s = shape-few (s .pre .0) (s .pre .3)
+few s = shape-few (s .pre .accepted) (s .pre .shape)
 
 hull-of-requires : tie.Need-hull-of-requires Inv-loop μ-loop
 hull-of-requires c κs = few (c .before)
@@ -56,16 +57,23 @@ module _ (c : tie.In-loop Inv-loop μ-loop) where
   below : d < dims (now (start .args .block))
   below = omega (arith, hull .before .dims-of .ensures, c .loop-test .taken)
 
-  small : d < 4
-  small = omega (arith, below, start .pre .0 .head .few-dims)
+  small : d < coordinates
+  small = omega (arith, below, start .pre .accepted .head .few-dims)
 
 span-requires : tie.Need-span-requires Inv-loop μ-loop
 span-requires c κs =
     let i = c .before in
     let p = start i .pre in
     let same = i .before .loop .inv .1 .same in
-    let at = hull i .hull-of .ensures in
-    (p .0, chained-kept (p .0 .head) (omega arith) same (p .1), boxes-kept (p .0 .head) same (omega (arith, at)) (p .2), p .3, below i)
+    let at = hull i .hull-of .ensures in (
+      record {
+        accepted = p .accepted;
+        chained = chained-kept (p .accepted .head) (omega arith) same (p .chained);
+        boxes-of = boxes-kept (p .accepted .head) same (omega (arith, at)) (p .boxes-of);
+        shape = p .shape;
+      },
+      below i,
+    )
 
 add-put-extent : tie.Need-add-put-extent Inv-loop μ-loop
 add-put-extent c = let i = c .before .before .before in omega (arith, few (start i), small i, hull i .hull-of .ensures)
@@ -104,7 +112,7 @@ returns c =
     let w = subst (λ (x : ℕ). Written (solidAt x) (l .loop .d) (Spanned (now (a .block)) (a .s)) (now (a .outline)) (l .loop .outline))
     (h .hull-of .ensures) (l .loop .inv .1) in (
       w .same,
-      hull-of-spans (p .0) (p .3) (boxes-kept (p .0 .head) (w .same) (omega arith) (p .2))
+      hull-of-spans (p .accepted) (p .shape) (boxes-kept (p .accepted .head) (w .same) (omega arith) (p .boxes-of))
           (λ d m. w .is d (omega (arith, k .dims-of .ensures, c .loop-test .left))),
     )
 

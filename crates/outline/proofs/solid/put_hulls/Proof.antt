@@ -49,12 +49,13 @@ put-hull-requires c κs =
     let n = l .before in
     let p = n .before .pre in
     let same = l .loop .inv .1 .0 in
-    let below : f .first-of .result < boxes (now (n .before .args .block)) = omega (arith, n .boxes-of .ensures, i .if1 .taken) in (
-      p .0,
-      chained-kept (p .0 .head) (omega arith) same (p .1),
-      boxes-kept (p .0 .head) same (omega arith) (p .2),
-      record { box = f .first-of .result; below = below; is = f .first-of .ensures .1 below },
-    )
+    let below : f .first-of .result < boxes (now (n .before .args .block)) = omega (arith, n .boxes-of .ensures, i .if1 .taken) in
+    record {
+      accepted = p .0;
+      chained = chained-kept (p .0 .head) (omega arith) same (p .1);
+      boxes-of = boxes-kept (p .0 .head) same (omega arith) (p .2);
+      shape = record { box = f .first-of .result; below = below; is = f .first-of .ensures .1 below };
+    }
 
 add-s : tie.Need-add-s Inv-loop μ-loop
 add-s c = omega (arith, c .before .before .before .loop-test .taken)

@@ -23,13 +23,13 @@ abbrev μ-loop : tie.MeasureT-loop
 μ-loop block outline s d n hull₀ b₀ hull b = boxes block - b
 
 boxes-of-requires : tie.Need-boxes-of-requires Inv-loop μ-loop
-boxes-of-requires c κs = c .pre .0 .head
+boxes-of-requires c κs = c .pre .0 .accepted .head
 
 sub-t8 : tie.Need-sub-t8 Inv-loop μ-loop
 sub-t8 c = diff-fits (num 0) (num 20000) tt
 
 first-of-requires : tie.Need-first-of-requires Inv-loop μ-loop
-first-of-requires c κs = let p = c .before .pre in (p .1, shape-few (p .0) (p .3))
+first-of-requires c κs = let p = c .before .pre .0 in (p .chained, shape-few (p .accepted) (p .shape))
 
 loop-holds : tie.Need-loop-holds Inv-loop μ-loop
 loop-holds c = let e = c .first-of .ensures in (e .0, e .1, spans-none refl refl (e .2))
@@ -50,13 +50,16 @@ module _ (c : tie.In-loop Inv-loop μ-loop) where
 
 extent-of-requires : tie.Need-extent-of-requires Inv-loop μ-loop
 extent-of-requires c κs =
-    let h = start c .pre .0 .head in (omega (arith, below c, h .few-boxes), omega (arith, start c .pre .4, h .few-dims))
+    let h = start c .pre .0 .accepted .head in (omega (arith, below c, h .few-boxes), omega (arith, start c .pre .1, h .few-dims))
 
 around-requires : tie.Need-around-requires Inv-loop μ-loop
 around-requires c κs = tt
 
 after-requires : tie.Need-after-requires Inv-loop μ-loop
-after-requires c κs = let i = c .before .before in (start i .pre .0 .head, start i .pre .1, below i, is-of i)
+after-requires c κs =
+    let i = c .before .before in
+    let p = start i .pre .0 in
+    record { head = p .accepted .head; chained = p .chained; below = below i; is = is-of i }
 
 loop-less : tie.Need-loop-less Inv-loop μ-loop
 loop-less c = omega (arith, c .after .ensures .0, c .after .ensures .1)
@@ -66,15 +69,16 @@ loop-again c =
     let a = c .before in
     let x = a .before in
     let i = x .before in
-    let p = start i .pre in
+    let p = start i .pre .0 in
+    let in-k = start i .pre .1 in
     let hull = i .before .loop .hull in
-    let box = p .2 _ (below i) in
+    let box = p .boxes-of _ (below i) in
     let e = c .after .ensures in (
       e .1,
       e .2,
-      spans-more (p .0) (below i) (p .4) (is-of i) (i .before .loop .inv .2)
-          (a .around .ensures .0 ∙ ap (minZ (hull .start)) (x .extent-of .ensures .0 ∙ box .starts _ (p .4)))
-          (a .around .ensures .1 ∙ ap (maxZ (hull .end)) (x .extent-of .ensures .1 ∙ box .ends _ (p .4)))
+      spans-more (p .accepted) (below i) in-k (is-of i) (i .before .loop .inv .2)
+          (a .around .ensures .0 ∙ ap (minZ (hull .start)) (x .extent-of .ensures .0 ∙ box .starts _ in-k))
+          (a .around .ensures .1 ∙ ap (maxZ (hull .end)) (x .extent-of .ensures .1 ∙ box .ends _ in-k))
           (e .0) (e .3),
     )
 

@@ -4,7 +4,7 @@ use native.Mathlib.Omega.{arith}
 use lib.ListN.{length}
 use mir.Facts.{toZ-ofZ}
 use Rattle.integers.specs.Words.{word}
-use Rattle.points.specs.Area.{maxZ, minZ}
+use Rattle.points.specs.Area.{coordinates, maxZ, minZ}
 use Rattle.points.proofs.Sums.{bits-back}
 use Rattle.points.proofs.Cut.{cuts-one}
 use borrow.Author.Needs.{needs}
@@ -45,14 +45,14 @@ returns : tie.Need-returns
 returns c k h =
     let s = c .before .before .before .before in
     let a = s .args in
-    let hl : length (a .t1 .low) ≡ 4 = search needs in
-    let hh : length (a .t1 .high) ≡ 4 = search needs in
+    let hl : length (a .t1 .low) ≡ coordinates = search needs in
+    let hh : length (a .t1 .high) ≡ coordinates = search needs in
     cuts-one (a .t1) (a .d) (a .low) (a .high) (omega arith) (omega arith)
     (bits-back (c .before .before .larger .ok) ∙ c .before .before .larger .ensures
     ∙ ap₂ maxZ (bits-back {z = word (a .t1 .low) (a .d)} (c .before .before .before .a .given)) (toZ-ofZ (s .fits .low)))
     (bits-back (c .lesser .ok) ∙ c .lesser .ensures
     ∙ ap₂ minZ (bits-back {z = word (a .t1 .high) (a .d)} (c .before .b .given)) (toZ-ofZ (s .fits .high)))
-    (s .pre .1) (s .pre .2) h
+    (s .pre .low-near) (s .pre .high-near) h
 
 pub within-spec : {M : Type 1} → statement M
 within-spec =

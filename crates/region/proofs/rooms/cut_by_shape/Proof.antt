@@ -47,7 +47,7 @@ module _ (c : tie.In-loop Inv-loop μ-loop) where
 
 names-dim-requires : tie.Need-names-dim-requires Inv-loop μ-loop
 names-dim-requires c κs =
-    let p = start c .pre .0 in (p .accepted .head, p .rule, p .accepted .dim-sets _ (p .rule .below), below c)
+    let p = start c .pre .0 in (p .rule, p .accepted .dim-sets _ (p .rule .below), below c)
 
 cut-by-side-requires : tie.Need-cut-by-side-requires Inv-loop μ-loop
 cut-by-side-requires c κs =

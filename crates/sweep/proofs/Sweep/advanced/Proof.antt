@@ -16,7 +16,7 @@ use Rattle.integers.proofs.Ints.{ints}
 use Rattle.integers.proofs.Machine.{bnd, num, _+ʷ_, exact, fits-word}
 use Rattle.points.specs.Area.{coordinates}
 use Rattle.sweep.specs.declared.Sweep.{Sweep}
-use Rattle.sweep.specs.Point.{reach, next}
+use Rattle.sweep.specs.Point.{limit, next}
 use Rattle.sweep.specs.Rotation.{rotation}
 use Rattle.sweep.specs.Moves.{placedAt, advance}
 use Rattle.sweep.proofs.Points.{near-fits}
@@ -66,7 +66,7 @@ module _ (c : tie.After-end Inv-loop μ-loop) where
   end-read : toZ w64 (ofZ w64 (word high i)) ≡ word high i
   end-read = toZ-ofZ (fits-word _ (c .end .given))
 
-  end-near : Within reach (word high i)
+  end-near : Within limit (word high i)
   end-near = c .before .before .before .before .before .pre .near i
 
   -- the sweep with both words written, as the machine holds them

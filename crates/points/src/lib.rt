@@ -27,13 +27,16 @@ pub fn lesser(a: i64, b: i64) -> i64
     if a <= b { a } else { b }
 }
 
-// Whether p lies from low to high, in the first k dimensions.
+// Whether p lies from low to high, in the first k dimensions. The loop's bound is a constant: unrolled, it keeps p in registers.
 fn lies_between(low: &[i64], high: &[i64], k: usize, p: [i64; COORDINATES]) -> bool
     requires { ⌜ (k ≤ length (now low)) × (k ≤ length (now high)) × (k ≤ coordinates) ⌝ }
     ensures { λ r. ⌜ r ≡ inArea k (areaBy (now (low .entry)) (now (high .entry))) p ⌝ }
 {
     let mut d = 0;
-    while d < k {
+    while d < COORDINATES {
+        if d == k {
+            return true;
+        }
         if !words::is_within(p[d], low[d], high[d]) {
             return false;
         }

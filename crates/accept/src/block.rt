@@ -13,20 +13,20 @@ use words::Place;
 
 // ---- 2 to 4: k, B, R and the length
 
-pub fn bad_head(block: &[i64]) -> bool
+pub(crate) fn bad_head(block: &[i64]) -> bool
     ensures { λ r. ⌜ r ≡ badHead (now (block .entry)) ⌝ }
 {
     block.len() < 3 || !words::word_in(block, 0, 1, 4)
 }
 
-pub fn bad_counts(block: &[i64]) -> bool
+pub(crate) fn bad_counts(block: &[i64]) -> bool
     requires { ⌜ badHead (now block) ≡ false ⌝ }
     ensures { λ r. ⌜ r ≡ badCounts (now (block .entry)) ⌝ }
 {
     !words::word_in(block, 1, 1, 128) || !words::word_in(block, 2, 0, 32)
 }
 
-pub fn bad_block_length(block: &[i64]) -> bool
+pub(crate) fn bad_block_length(block: &[i64]) -> bool
     requires { ⌜ (badHead (now block) ≡ false) × (badCounts (now block) ≡ false) ⌝ }
     ensures { λ r. ⌜ r ≡ badBlockLength (now (block .entry)) ⌝ }
 {
@@ -38,7 +38,7 @@ pub fn bad_block_length(block: &[i64]) -> bool
 
 // ---- 6: the boxes
 
-pub fn bad_box(block: &[i64]) -> bool
+pub(crate) fn bad_box(block: &[i64]) -> bool
     requires { ⌜ Head (now block) ⌝ }
     ensures { λ r. ⌜ r ≡ badBox (now (block .entry)) ⌝ }
 {
@@ -85,7 +85,7 @@ fn valid_extent(block: &[i64], b: Place, d: usize) -> bool
 
 // ---- 7: the rules
 
-pub fn bad_rule(block: &[i64], table: &[i64]) -> bool
+pub(crate) fn bad_rule(block: &[i64], table: &[i64]) -> bool
     requires { ⌜ Head (now block) × Rows (now block) (now table) ⌝ }
     ensures { λ r. ⌜ r ≡ badRule (now (block .entry)) (now (table .entry)) ⌝ }
 {

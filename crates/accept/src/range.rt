@@ -5,13 +5,13 @@ ghost use lib.IntN.{pos};
 ghost use Rattle.integers.specs.Integer.{eqZ, within};
 ghost use Rattle.accept.specs.Parts.{validRange};
 
-pub fn is_equal(a: i64, b: i64) -> bool
+pub(crate) fn is_equal(a: i64, b: i64) -> bool
     ensures { λ r. ⌜ r ≡ eqZ a b ⌝ }
 {
     a == b
 }
 
-pub fn valid_range(a: i64, b: i64) -> bool
+pub(crate) fn valid_range(a: i64, b: i64) -> bool
     ensures { λ r. ⌜ r ≡ validRange a b ⌝ }
 {
     if !words::is_within(a, -1000000, 1000000) {
@@ -24,7 +24,7 @@ pub fn valid_range(a: i64, b: i64) -> bool
 }
 
 // Whether the word is a set of some of the numbers 1 to n.
-pub fn valid_set(set: i64, n: usize) -> bool
+pub(crate) fn valid_set(set: i64, n: usize) -> bool
     requires { ⌜ n ≤ 32 ⌝ }
     ensures { λ r. ⌜ r ≡ within (pos 1) (pos (2 ^ n - 1)) set ⌝ }
 {

@@ -13,7 +13,7 @@ use words::Place;
 
 // ---- 5: the length
 
-pub fn bad_table_length(block: &[i64], table: &[i64]) -> bool
+pub(crate) fn bad_table_length(block: &[i64], table: &[i64]) -> bool
     requires { ⌜ Head (now block) ⌝ }
     ensures { λ r. ⌜ r ≡ badTableLength (now (block .entry)) (now (table .entry)) ⌝ }
 {
@@ -27,7 +27,7 @@ pub fn bad_table_length(block: &[i64], table: &[i64]) -> bool
 
 // ---- 8: the rows
 
-pub fn bad_row(block: &[i64], table: &[i64]) -> bool
+pub(crate) fn bad_row(block: &[i64], table: &[i64]) -> bool
     requires { ⌜ Head (now block) × Rows (now block) (now table) × (badBox (now block) ≡ false) ⌝ }
     ensures { λ r. ⌜ r ≡ badRow (now (block .entry)) (now (table .entry)) ⌝ }
 {
@@ -115,7 +115,7 @@ fn valid_ranges(block: &[i64], table: &[i64], i: Place) -> bool
 
 // ---- 12: a fixed placement
 
-pub fn not_fixed(block: &[i64], table: &[i64]) -> bool
+pub(crate) fn not_fixed(block: &[i64], table: &[i64]) -> bool
     requires { ⌜ Head (now block) × Table (now block) (now table) ⌝ }
     ensures { λ r. ⌜ r ≡ notFixed (now (block .entry)) (now (table .entry)) ⌝ }
 {

@@ -14,7 +14,7 @@ use Rattle.integers.proofs.Booleans.{clash, and-true, true-and, not-true}
 use Rattle.sheet.specs.Layout.{axes}
 use Rattle.sheet.specs.Allowed.{forbidden}
 use Rattle.points.specs.declared.Area.{Area}
-use Rattle.points.specs.Area.{inArea, Small}
+use Rattle.points.specs.Area.{coordinates, inArea, Small}
 use Rattle.points.proofs.Areas.{area-at, area-by}
 use Rattle.sweep.specs.Point.{InBox, Near, turn, turned, turnedEnd}
 use Rattle.sweep.specs.Rotation.{rotation}
@@ -51,13 +51,24 @@ pointsLeft block d first end w = pointsAfter (rotation (axes block) d) first end
 
 -- what is swept for dimension d: the area a, which has a point, from first to end when it is turned
 pub record Task (block : List ℤ) (d : ℕ) (flip : Bool) (a : Area) (first end : List ℤ) : Type 0 where
-  pub few : axes block ≤ 4
+  pub few : axes block ≤ coordinates
   pub below : d < axes block
   pub small : Small a
   pub filled : inArea (axes block) a (a .low) ≡ true
   pub turns : TurnedBox flip (a .low) (a .high) first end
-  pub first-long : length first ≡ 4
-  pub end-long : length end ≡ 4
+  pub first-long : length first ≡ coordinates
+  pub end-long : length end ≡ coordinates
+
+-- one turn of the sweep: its candidate stands for the point p, and x is an area around p, all of whose points are forbidden, that ends at last
+-- when it is turned
+pub record Turn (block t : List ℤ) (i s d : ℕ) (flip : Bool) (first end : List ℤ) (w : Sweep) (p : List ℤ) (x : Area) (last : List ℤ) : Type 0 where
+  pub swept : Swept block t i s d flip first end w
+  pub live : w .live ≡ true
+  pub point : p ≡ turned flip (w .candidate)
+  pub around : inArea (axes block) x p ≡ true
+  pub only : (q : List ℤ) → inArea (axes block) x q ≡ true → forbidden block t i s q ≡ true
+  pub ends : last ≡ turnedEnd flip (x .low) (x .high)
+  pub long : length last ≡ coordinates
 
 -- the bounds of a small area are near
 pub near-low : {a : Area} → Small a → Near (a .low)
@@ -128,32 +139,6 @@ module _ {block : List ℤ} {d : ℕ} {flip : Bool} {a : Area} {first end : List
               none = λ u. absurd (clash refl u);
             }
 
-        -- x is an area around p, all of whose points are forbidden, and ends at last when it is turned
-        module _ (x : Area) (around : inArea (axes block) x p ≡ true)
-            (only : (q : List ℤ) → inArea (axes block) x q ≡ true → forbidden block t i s q ≡ true)
-            {last : List ℤ} (ends : last ≡ turnedEnd flip (x .low) (x .high)) (long : length last ≡ 4)
-            {next : Sweep} (moves : next ≡ advance (rotation (axes block) d) first end (axes block) (jumpedPast w last)) where
-          turned-x : TurnedBox flip (x .low) (x .high) (turnedEnd flip (x .high) (x .low)) last
-          turned-x = record { start = refl; end = ends }
-
-          step : Step (axes block) (rotation (axes block) d) first end Bad w next
-          step =
-              record {
-                live = live;
-                first = turnedEnd flip (x .high) (x .low);
-                last = last;
-                long = omega (arith, task .few, long);
-                around = box-in turned-x (subst (InBox (axes block) (x .low) (x .high)) point (area-box p around));
-                bad = λ q b c. only (turned flip q) (box-area (turned flip q) (box-out turned-x c));
-                next = moves;
-              }
-
-          pub swept-on : Swept block t i s d flip first end next
-          swept-on = onward r step
-
-          pub swept-falls : next .live ≡ true → pointsLeft block d first end next < pointsLeft block d first end w
-          swept-falls l = theorem .falls r step l
-
       pub swept-none : w .live ≡ false → (q : List ℤ) → Sighted flip block t i s a d (record { found = false; point = q })
       swept-none l q =
           record {
@@ -164,3 +149,27 @@ module _ {block : List ℤ} {d : ℕ} {flip : Bool} {a : Area} {first end : List
                 let g = free-parts p e in
                 not-bad p (g .1) (theorem .exhausted r l (turned flip p) (in-range p (g .0)));
           }
+
+    -- ---- the jump over the region that a turn met
+    module _ {w next : Sweep} {p : List ℤ} {x : Area} {last : List ℤ} (turn : Turn block t i s d flip first end w p x last)
+        (moves : next ≡ advance (rotation (axes block) d) first end (axes block) (jumpedPast w last)) where
+      turned-x : TurnedBox flip (x .low) (x .high) (turnedEnd flip (x .high) (x .low)) last
+      turned-x = record { start = refl; end = turn .ends }
+
+      step : Step (axes block) (rotation (axes block) d) first end Bad w next
+      step =
+          record {
+            live = turn .live;
+            first = turnedEnd flip (x .high) (x .low);
+            last = last;
+            long = omega (arith, task .few, turn .long);
+            around = box-in turned-x (subst (InBox (axes block) (x .low) (x .high)) (turn .point) (area-box p (turn .around)));
+            bad = λ q b c. turn .only (turned flip q) (box-area (turned flip q) (box-out turned-x c));
+            next = moves;
+          }
+
+      pub swept-on : Swept block t i s d flip first end next
+      swept-on = onward (turn .swept) step
+
+      pub swept-falls : next .live ≡ true → pointsLeft block d first end next < pointsLeft block d first end w
+      swept-falls l = theorem .falls (turn .swept) step l

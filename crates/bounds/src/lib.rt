@@ -87,7 +87,7 @@ pub fn search(
     }
 }
 
-// The coordinate of such a point among those at which the row is allowed.
+// The least coordinate in dimension d, or where flip is set the greatest, of the points at which row i is allowed with shape s.
 fn extreme(
     block: &[i64],
     table: &[i64],
@@ -128,7 +128,7 @@ fn extreme(
     Found::Nothing
 }
 
-// The same as an answer. The suspects' words may have been any.
+// The least or the greatest coordinate as an answer. The suspects' words may have been any.
 fn bound_in(
     block: &[i64],
     table: &[i64],

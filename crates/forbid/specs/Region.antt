@@ -34,7 +34,7 @@ module _ (block : List ℤ) (t : List ℤ) where
     pub own : Boxed block s
     pub near : InField (axes block) p
 
-  -- the same, and rule r and another row
+  -- a shape and a point, with rule r and another row
   pub record Versus (o : List ℤ) (r : Place) (s : ℕ) (j : Place) (p : List ℤ) : Type 0 where
     pub at-point : AtPoint o s p
     pub rule : RulePlace block r

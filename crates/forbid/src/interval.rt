@@ -6,7 +6,7 @@ ghost use Rattle.forbid.specs.Interval.{forbidFirst, forbidLast, SumsFit
 use outline::solid::Extent;
 
 // The numbers from a first to a last one; none where the first exceeds the last.
-pub struct Interval {
+pub(crate) struct Interval {
     pub from: i64,
     pub to: i64,
 }

@@ -35,7 +35,7 @@ impl Region {
     }
 }
 
-// What rule r forbids by some row.
+// What rule r forbids to row i with shape s at p, by some other row.
 fn rows_region(
     block: &[i64],
     table: &[i64],
@@ -75,7 +75,7 @@ pub fn is_non_overlap_of(block: &[i64], r: Place, i: usize) -> bool
     false
 }
 
-// What rule r forbids.
+// What rule r forbids to row i with shape s at p.
 fn rule_region(
     block: &[i64],
     table: &[i64],

@@ -28,11 +28,6 @@ below-or a b = ⊎-elim (λ e. inl (ltb-true a b e)) (λ e. inr (ltb-false a b e
 pub last-or : {i n : ℕ} → i < suc n → (i ≡ n) ⊎ (i < n)
 last-or h = eq-or-lt-of-le (le-of-suc-le-suc h)
 
--- a statement about every number from 1 on
-pub each-from-1 {ℓ} : (P : ℕ → Type ℓ) → ((m : ℕ) → P (suc m)) → (i : ℕ) → 1 ≤ i → P i
-each-from-1 P f zero h = absurd (not-suc-le-zero h)
-each-from-1 P f (suc m) h = f m
-
 -- ---- one more turn of a loop
 pub all-zero : (f : ℕ → Bool) → allBelow 0 f ≡ true
 unfolding allBelow

@@ -9,7 +9,7 @@ ghost use Rattle.sheet.specs.Text.{digitsFrom, positive, signed, number};
 ghost use Rattle.line.specs.Answers.{numberOf};
 
 // A number, or none.
-pub enum Number {
+pub(crate) enum Number {
     Found(i64),
     Missing,
 }
@@ -59,7 +59,7 @@ fn read_positive(f: &[u8]) -> Number
 }
 
 // The number that the field `f` spells, if it spells one.
-pub fn read_number(f: &[u8]) -> Number
+pub(crate) fn read_number(f: &[u8]) -> Number
     ensures { λ r. ⌜ r ≡ numberOf (number (now (f .entry))) ⌝ }
 {
     if f.len() == 0 {

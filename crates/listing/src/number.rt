@@ -27,7 +27,7 @@ fn fill_digits(buf: &mut [u8], n: u64) -> usize
 }
 
 // Puts the digits of `n`. A 64-bit number has at most 20.
-pub fn put_natural(out: &mut [u8], at: usize, n: u64) -> usize
+pub(crate) fn put_natural(out: &mut [u8], at: usize, n: u64) -> usize
     requires { ⌜ at ≤ 1000000 ⌝ }
     ensures { λ r. ⌜ Put (now (out .entry)) at (shown (pos n)) r (now (out .exit)) ⌝ }
 {
@@ -48,7 +48,7 @@ fn magnitude(v: i64) -> u64
 }
 
 // Puts a word: a minus where it is negative, and its digits.
-pub fn put_number(out: &mut [u8], at: usize, v: i64) -> usize
+pub(crate) fn put_number(out: &mut [u8], at: usize, v: i64) -> usize
     requires { ⌜ at + 1 ≤ 1000000 ⌝ }
     ensures { λ r. ⌜ Put (now (out .entry)) at (shown v) r (now (out .exit)) ⌝ }
 {

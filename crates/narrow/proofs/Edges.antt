@@ -18,6 +18,7 @@ use Rattle.sheet.specs.Layout.{shapeSet, hasShape}
 use Rattle.sheet.specs.Allowed.{allowed}
 use Rattle.sheet.specs.Narrow.{Stands}
 use Rattle.bounds.specs.Search.{Ahead}
+use Rattle.points.specs.Area.{reach}
 use Rattle.points.specs.Ends.{farther}
 use Rattle.narrow.specs.Ends.{nowhere, past-from, past-to, StandsTo, Edge, End}
 
@@ -34,7 +35,7 @@ ahead-trans false a b c h k = ≤ℤ-trans h k
 pub not-past : (flip : Bool) (y z : ℤ) → Within 1000000 y → within (past-from flip z) (past-to flip z) y ≡ false → Ahead flip z y
 not-past true y z n e = omega (ints, not-le {a = z +ℤ pos 1} {b = y} (λ h. clash (true-within h (omega ints)) e), lin (v z ⊕ v (pos 1)))
 not-past false y z n e =
-    omega (ints, not-le {a = y} {b = z -ℤ pos 1} (λ h. clash (true-within {a = minus 2000000} (omega ints) h) e), lin (v z ⊖ v (pos 1)))
+    omega (ints, not-le {a = y} {b = z -ℤ pos 1} (λ h. clash (true-within {a = minus reach} (omega ints) h) e), lin (v z ⊖ v (pos 1)))
 
 not-nowhere : (flip : Bool) (y : ℤ) → Within 1000000 y → Ahead flip (nowhere flip) y → ⊥
 not-nowhere true y n h = omega ints

@@ -56,15 +56,15 @@ module _ (block : List ℤ) (t : List ℤ) (i : ℕ) where
     pub ahead : (p : List ℤ) → StandsTo n p → Ahead flip z (word p d)
     pub reached : Reached block t i d z
 
-  -- so where there is such a point; `nowhere` while there is none
+  -- z is such an edge where the row has a point, and `nowhere` while it has none
   abbrev pub End : Bool → ℕ → ℕ → ℤ → Type 0
   End flip n d z = Edge flip n d z ⊎ ((z ≡ nowhere flip) × ((p : List ℤ) → StandsTo n p → ⊥))
 
-  -- so for the ends in the dimensions below m
+  -- the ends in the dimensions below m are such edges
   abbrev pub Edges : ℕ → ℕ → List ℤ → Type 0
   Edges n m ends = (flip : Bool) (d : ℕ) → d < m → Edge flip n d (endAt flip d ends)
 
-  -- and in every dimension
+  -- the ends of the row's first n shapes, in every dimension
   abbrev pub Ends : ℕ → List ℤ → Type 0
   Ends n ends = (flip : Bool) (d : ℕ) → d < axes block → End flip n d (endAt flip d ends)
 

@@ -87,7 +87,7 @@ fn with_next(
 }
 
 // Which shapes of row i have a point: no further than the last of its set. The ends are lent as those of no shape.
-pub fn kept_shapes(
+pub(crate) fn kept_shapes(
     block: &[i64],
     table: &[i64],
     outline: &[i64; OUTLINE],

@@ -1,5 +1,5 @@
-// Narrowing one row (document 01): its points are searched shape by shape, and the ends that they reach are written into the row. What can forbid it is
-// listed, for each shape once, in runs that the caller lends.
+// Narrowing one row (document 01): its points are searched shape by shape, and the ends that they reach are written into the row. What can
+// forbid it is listed, for each shape once, in runs that the caller lends.
 mod kept;
 mod widen;
 
@@ -99,7 +99,7 @@ pub fn narrow_row(
     Step::Still
 }
 
-// The same as an answer. The suspects' words may have been any.
+// Narrows row i of an accepted sheet, and gives what was found as an answer. The suspects' words may have been any.
 fn narrow_in(
     block: &[i64],
     table: &mut [i64],

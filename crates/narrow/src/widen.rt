@@ -81,7 +81,7 @@ fn widen_end(
 }
 
 // Takes every end on to the points of the list's shape.
-pub fn widen(
+pub(crate) fn widen(
     block: &[i64],
     table: &[i64],
     outline: &[i64; OUTLINE],

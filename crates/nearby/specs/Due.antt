@@ -17,7 +17,7 @@ module _ (block t : List ℤ) where
   pub record HarmlessBy (r j i : ℕ) : Type 0 where
     pub spares : (s : ℕ) (p : List ℤ) → hasShape block t i s ≡ true → inRanges block t i p ≡ true → setForbids block t r p i s j ≡ false
 
-  -- the same of shape s of row i and shape u of row j
+  -- shape u of row j forbids row i with shape s no point of its ranges by rule r
   abbrev pub ShapeHarmless : ℕ → ℕ → ℕ → ℕ → ℕ → Type 0
   ShapeHarmless r j u i s = (p : List ℤ) → hasShape block t i s ≡ true → inRanges block t i p ≡ true → shapesForbid block t r p i s j u ≡ false
 
@@ -30,7 +30,7 @@ module _ (block t : List ℤ) where
     pub other : RowPlace block t j
     pub row : RowPlace block t i
 
-  -- the same, with a shape of the other row and a shape number
+  -- a rule and two rows, with a shape of the other row and a shape number
   pub record ShapeFaces (o : List ℤ) (r j : Place) (u : ℕ) (i : Place) (s : ℕ) : Type 0 where
     pub rows-of : Faces o r j i
     pub shape : Boxed block u

@@ -65,7 +65,7 @@ pub record Sought (block t o : List ℤ) (x : Nearby) (list known p : List ℤ) 
   pub inside : inRanges block t (x .i .number) p ≡ true
   pub listed : Listed block t x list known
 
--- the same where only the suspects are asked
+-- a point at which the suspects are asked, since no known area holds it
 pub record Suspected (block t o : List ℤ) (x : Nearby) (list p : List ℤ) : Type 0 where
   pub at-point : AtPoint block t o (x .s) p
   pub row : RowPlace block t (x .i)

@@ -34,15 +34,12 @@ module _ (list : List ℤ) (e : ℕ) where
   abbrev pub suspectArea : Area
   suspectArea = areaAt list (suspectEnds e)
 
--- known areas: how many there are, then the areas; and the most
+-- known areas: how many there are, then the areas; and the most of them
 abbrev pub knownMost : ℕ
 knownMost = 64
 
 abbrev pub knownAt : ℕ → ℕ
 knownAt e = 1 + areaWords * e
-
-abbrev pub knownLen : ℕ
-knownLen = knownAt knownMost
 
 abbrev pub knownCount : List ℤ → ℕ
 knownCount known = nat (word known 0)

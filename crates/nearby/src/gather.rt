@@ -33,7 +33,7 @@ use words::Place;
 const FULL: usize = 1000;
 
 // Row i with shape s: for whom a list is made.
-pub struct Query {
+pub(crate) struct Query {
     pub i: Place,
     pub s: usize,
 }

@@ -30,7 +30,7 @@ const ROW: usize = 1;
 
 const AREA: usize = 2;
 
-pub const SUSPECT: usize = AREA + AREA_WORDS;
+pub(crate) const SUSPECT: usize = AREA + AREA_WORDS;
 
 // How many suspects a caller makes room for: a few where there can be no more, and else many; and the words of each number.
 pub const FEW: usize = 64;

@@ -31,7 +31,7 @@ module _ (block o : List ℤ) where
     pub next-is : (s b : ℕ) → m ≤ b → b < boxes block → isOf block b s ≡ true → nextOf b < boxes block → isOf block (nextOf b) s ≡ true
     pub next-skips : (s b c : ℕ) → m ≤ b → b < boxes block → isOf block b s ≡ true → b < c → c < nextOf b → isOf block c s ≡ false
 
-  -- so for all boxes
+  -- every box is linked
   abbrev pub Chained : Type 0
   Chained = ChainedFrom 0
 

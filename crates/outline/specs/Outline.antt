@@ -22,7 +22,7 @@ pub record OnRow (block t o : List ℤ) (i : Place) : Type 0 where
   pub outline : Outline block o
   pub row : RowPlace block t i
 
--- the same, with a shape of the sheet
+-- row i of an accepted sheet with a shape of the sheet
 pub record Subject (block t o : List ℤ) (i : Place) (s : ℕ) : Type 0 where
   pub accepted : Block block
   pub table : Table block t

@@ -37,9 +37,6 @@ solidLen = areaWords
 abbrev pub solidAt : ℕ → ℕ
 solidAt x = rulesAt + 1 + solidLen * x
 
-abbrev pub outlineLen : ℕ
-outlineLen = solidAt solids
-
 module _ (o : List ℤ) where
   abbrev pub startOf : ℕ → ℕ → ℤ
   startOf x d = word o (solidAt x + d)

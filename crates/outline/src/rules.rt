@@ -38,7 +38,7 @@ fn row_set(block: &[i64], r: Place) -> u32
     words::row_set_of(block, r) as u32
 }
 
-// Whether rule q is one of the set and names each of the rows, and no dimension but these.
+// Whether rule q is one of the set, names each of the rows, and names no dimension but those of `dims`.
 fn covers(block: &[i64], set: u32, q: usize, rows: u32, dims: u32) -> bool
     requires { ⌜ Block (now block) × (q < rules (now block)) ⌝ }
     ensures { λ x. ⌜ (x ≡ true → (bit (pos set) q ≡ true) × Covers (now (block .entry)) rows dims q) ⌝ }
@@ -53,7 +53,7 @@ fn covers(block: &[i64], set: u32, q: usize, rows: u32, dims: u32) -> bool
     is_part(dim_set(block, rule), dims)
 }
 
-// Whether a rule of the set below n does.
+// Whether some rule below n is one of the set, names each of the rows, and names no dimension but those of `dims`.
 fn is_covered(block: &[i64], set: u32, n: usize, rows: u32, dims: u32) -> bool
     requires { ⌜ Block (now block) × (n ≤ rules (now block)) ⌝ }
     ensures { λ x. ⌜ (x ≡ true → CoveredBy (now (block .entry)) set rows dims) ⌝ }
@@ -68,7 +68,7 @@ fn is_covered(block: &[i64], set: u32, n: usize, rows: u32, dims: u32) -> bool
     false
 }
 
-// The rules up to r that count, of those below r.
+// The set of the rules up to r that count, made from that of the rules below r.
 fn with_rule(block: &[i64], set: u32, r: usize) -> u32
     requires { ⌜ Block (now block) × (r < rules (now block)) × CountedTo (now block) r set ⌝ }
     ensures { λ x. ⌜ CountedTo (now (block .entry)) (r + 1) x ⌝ }
@@ -85,7 +85,7 @@ fn with_rule(block: &[i64], set: u32, r: usize) -> u32
     words::with_member(set, r)
 }
 
-// The set of the rules that count.
+// The set of the rules that count, read off the block.
 fn counted(block: &[i64]) -> u32
     requires { ⌜ Block (now block) ⌝ }
     ensures { λ x. ⌜ CountedTo (now (block .entry)) (rules (now (block .entry))) x ⌝ }
@@ -100,7 +100,7 @@ fn counted(block: &[i64]) -> u32
     set
 }
 
-// Puts it.
+// Puts the set of the rules that count into the outline.
 pub(crate) fn count_rules(block: &[i64], outline: &mut [i64; OUTLINE])
     requires { ⌜ Block (now block) ⌝ }
     ensures { λ _. ⌜ SameTo rulesAt (now (outline .entry)) (now (outline .exit)) × Rules (now (block .entry)) (now (outline .exit)) ⌝ }
@@ -117,7 +117,7 @@ pub fn rule_counts(outline: &[i64; OUTLINE], r: usize) -> bool
     words::bit_at(outline, RULES, r)
 }
 
-// The set of the rules that count.
+// The set of the rules that count, as the outline has it.
 pub fn counting(outline: &[i64; OUTLINE]) -> u32
     requires { ⌜ Count (word (now outline) rulesAt) ⌝ }
     ensures { λ x. ⌜ x ≡ nat (word (now (outline .entry)) rulesAt) ⌝ }

@@ -19,8 +19,8 @@ use sheet::PointTest;
 use sheet::Verdict;
 use words::Place;
 
-// Row i with shape s is allowed at p: in the cut box, and no rule forbids it.
-pub fn stands(
+// Whether row i with shape s is allowed at p: it is in the cut box, and no rule forbids it.
+fn stands(
     block: &[i64],
     table: &[i64],
     outline: &[i64; OUTLINE],
@@ -41,7 +41,7 @@ pub fn stands(
     !hit
 }
 
-// Coordinates are any words: a point outside the ranges is simply not allowed.
+// Whether a row with a shape is allowed at a point. Coordinates are any words: a point outside the ranges is simply not allowed.
 pub fn point_allowed(
     block: &[i64],
     table: &[i64],
@@ -94,7 +94,7 @@ fn row_good(block: &[i64], table: &[i64], outline: &[i64; OUTLINE], i: Place) ->
     stands(block, table, outline, i, s, origin(block, table, i))
 }
 
-// Whether every row does.
+// Whether every row of a fixed placement stands at its point, with its one shape.
 fn all_good(block: &[i64], table: &[i64], outline: &[i64; OUTLINE]) -> bool
     requires { ⌜ FixedSheet (now block) (now table) (now outline) ⌝ }
     ensures { λ r. ⌜ r ≡ good (now (block .entry)) (now (table .entry)) ⌝ }

@@ -32,7 +32,7 @@ pub fn area_at(words: &[i64], at: usize) -> Area
     Area { low, high }
 }
 
-// Whether that area holds p, in the first k dimensions.
+// Whether the area whose words stand from `at` on holds p, in the first k dimensions.
 pub fn area_holds(words: &[i64], at: usize, k: usize, p: [i64; COORDINATES]) -> bool
     requires { ⌜ (at + areaWords ≤ length (now words)) × (k ≤ coordinates) ⌝ }
     ensures { λ r. ⌜ r ≡ inArea k (areaAt (now (words .entry)) at) p ⌝ }
@@ -42,7 +42,7 @@ pub fn area_holds(words: &[i64], at: usize, k: usize, p: [i64; COORDINATES]) -> 
     lies_between(&words[at..half], &words[half..end], k, p)
 }
 
-// Puts an area at `at`.
+// Puts an area's words from `at` on.
 pub fn put_area(words: &mut [i64], at: usize, area: Area)
     requires { ⌜ at + areaWords ≤ length (now words) ⌝ }
     ensures { λ _. ⌜ SameBut at areaWords (now (words .entry)) (now (words .exit)) × (areaAt (now (words .exit)) at ≡ area) ⌝ }
@@ -59,7 +59,7 @@ pub fn put_area(words: &mut [i64], at: usize, area: Area)
 
 // ---- the ends of one area
 
-// Every low end one number, and every high end another.
+// Ends of which each low one is the one number, and each high one the other.
 pub fn ends_at(low: i64, high: i64) -> [i64; AREA_WORDS]
     ensures { λ r. ⌜ EndsAre low high r ⌝ }
 {

@@ -61,7 +61,7 @@ impl Area {
         Area { low, high }
     }
 
-    // Cut to low..=high in dimension d.
+    // The area cut to low..=high in dimension d.
     pub fn within(mut self, d: usize, low: i64, high: i64) -> Self
         requires { ⌜ CutTo d low high ⌝ }
         ensures { λ r. ⌜ ((k : ℕ) → d < k → Cuts k self r (λ p. within low high (word p d))) ⌝ }
@@ -73,7 +73,7 @@ impl Area {
         self
     }
 
-    // Whether p is in it, in the first k dimensions.
+    // Whether the area holds p, in the first k dimensions.
     pub fn holds(self, k: usize, p: [i64; COORDINATES]) -> bool
         requires { ⌜ k ≤ coordinates ⌝ }
         ensures { λ r. ⌜ r ≡ inArea k self p ⌝ }

@@ -27,7 +27,7 @@ module _ (block : List ℤ) where
   unfoldable pub shapeContained : ℕ → ℕ → List ℤ → Bool
   shapeContained r s p = allBelow (boxes block) (λ b. isOf block b s ⇒ boxContained block r b p)
 
-  -- and for a rule that keeps row i in a room
+  -- rule r, if it keeps row i in a room, has every box of shape s in it
   unfoldable pub roomHolds : ℕ → ℕ → ℕ → List ℤ → Bool
   roomHolds i s r p = isContainment block r && namesRow block r i ⇒ shapeContained r s p
 

@@ -16,7 +16,7 @@ use outline::solid;
 use points::ends;
 use words::Place;
 
-// Cut to the points at which every box of shape s, and so its hull, lies in rule r's room in dimension d.
+// Cuts the area to the points at which every box of shape s, and so its hull, lies in rule r's room in dimension d.
 fn cut_by_side(
     ends: &mut [i64],
     block: &[i64],
@@ -35,7 +35,7 @@ fn cut_by_side(
     ends::cut(ends, d, low, high);
 }
 
-// The same in every dimension that the rule names.
+// Cuts the area to the points at which every box of shape s lies in rule r's room.
 fn cut_by_shape(ends: &mut [i64], block: &[i64], outline: &[i64; OUTLINE], r: Place, s: usize)
     requires { ⌜ Cutting (now block) (now outline) r s × (length (now ends) ≡ areaWords) ⌝ }
     ensures { λ _. ⌜ Cuts (axes (now (block .entry))) (areaOf (now (ends .entry))) (areaOf (now (ends .exit)))
@@ -63,7 +63,7 @@ fn is_room_of(block: &[i64], r: Place, i: usize) -> bool
     false
 }
 
-// The same as for a shape, if rule r keeps row i in a room.
+// Cuts the area to the points at which shape s lies in rule r's room, if the rule keeps row i in one.
 fn cut_by_rule(
     ends: &mut [i64],
     block: &[i64],
@@ -82,8 +82,14 @@ fn cut_by_rule(
     }
 }
 
-// The same for every rule.
-pub fn cut_by_rooms(ends: &mut [i64], block: &[i64], outline: &[i64; OUTLINE], i: usize, s: usize)
+// Cuts the area to the points at which shape s lies in every room in which a rule keeps row i.
+pub(crate) fn cut_by_rooms(
+    ends: &mut [i64],
+    block: &[i64],
+    outline: &[i64; OUTLINE],
+    i: usize,
+    s: usize,
+)
     requires { ⌜ CuttingRow (now block) (now outline) i s × (length (now ends) ≡ areaWords) ⌝ }
     ensures { λ _. ⌜ Cuts (axes (now (block .entry))) (areaOf (now (ends .entry))) (areaOf (now (ends .exit)))
         (roomsHold (now (block .entry)) i s) ⌝ }

@@ -9,7 +9,7 @@ use libc::STDIN_FILENO;
 const TRIES: usize = 1000000;
 
 // How many bytes were put at the start of a lent run, and whether no read failed.
-pub struct Input {
+pub(crate) struct Input {
     pub len: usize,
     pub whole: bool,
 }
@@ -39,7 +39,7 @@ fn read_some(buf: &mut [u8]) -> Input
 }
 
 // Reads until the input ends, the run is full or a read fails.
-pub fn read_input(text: &mut [u8]) -> Input
+pub(crate) fn read_input(text: &mut [u8]) -> Input
     ensures { λ x. ⌜ Counts (x .len) (now (text .exit)) ⌝ }
 {
     let mut n = 0;

@@ -73,7 +73,7 @@ fn threatens(
     due::threatens_row(block, table, outline, r, i, row)
 }
 
-// The rows that row i threatens by rule r are to be narrowed too.
+// Sets the words of the rows that row i threatens by rule r: they are to be narrowed too.
 fn touched_by(
     block: &[i64],
     table: &[i64],
@@ -98,7 +98,7 @@ fn touched_by(
     }
 }
 
-// If the rule counts, is a non-overlap rule and names row i.
+// Sets the words of the rows that row i threatens by rule r, if the rule counts, is a non-overlap rule and names row i.
 fn touched_if(
     block: &[i64],
     table: &[i64],
@@ -123,7 +123,7 @@ fn touched_if(
     touched_by(block, table, outline, due, i, n, rule);
 }
 
-// The rows that row i, which moved, threatens by some rule are to be narrowed too: no further than the last rule that counts.
+// Sets the words of the rows that row i, which moved, threatens by some rule: no further than the last rule that counts.
 fn touched(
     block: &[i64],
     table: &[i64],
@@ -148,7 +148,7 @@ fn touched(
     }
 }
 
-// One run over another of the same length.
+// Writes one run over another of the same length.
 fn copy(to: &mut [i64], from: &[i64])
     requires { ⌜ length (now to) ≡ length (now from) ⌝ }
     ensures { λ _. ⌜ now (to .exit) ≡ now (from .entry) ⌝ }
@@ -215,7 +215,7 @@ fn settle_in(
     Settling::Settled
 }
 
-// Settles the table, or leaves it as it was.
+// The kernel's operation: settles the table of a sheet, or leaves it as it was.
 pub fn settle(block: &[i64], table: &mut [i64]) -> Settling
     ensures { λ r. ⌜ Promise (now (block .entry)) (now (table .entry)) r (now (table .exit)) ⌝ }
 {

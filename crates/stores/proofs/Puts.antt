@@ -6,7 +6,7 @@ use Prim.Native.Nat.{ℕ, _+_, _≤_, _<_}
 use native.Mathlib.Omega.{arith}
 use native.Mathlib.Nat.{add-zero}
 use lib.ListN.{length, getD, drop, set, length-append, length-drop}
-use lib.Seq.{sets, sets-eq, length-sets}
+use lib.Seq.{sets, length-sets}
 use Rattle.stores.specs.Put.{Put}
 use Rattle.stores.proofs.Stores.{sets-append, sets-next, sets-done}
 
@@ -30,12 +30,6 @@ module _ {A : Type 0} where
 
   pub put-length : {l m : List A} {at p : ℕ} {v : List A} → Put l at v p m → length m ≡ length l
   put-length {l} {m} {at} {p} {v} a = ap length (a .stored) ∙ length-sets l at v
-
-  -- where the run has room from its start on, the items stand there, and the rest is as it was
-  pub put-whole : {l m : List A} {r : ℕ} {v : List A} → Put l 0 v r m → length v ≤ length l → m ≡ v ++ drop r l
-  put-whole {l} {m} {r} {v} a h =
-      let q : 0 + length v ≤ length l = omega arith in
-      a .stored ∙ sets-eq v l 0 q ∙ ap (λ (k : ℕ). v ++ drop k l) (sym (a .past))
 
   -- with `rest` put into `now` from p on, `whole` is put into `first` from `at` on
   pub record Left (first : List A) (at : ℕ) (whole now : List A) (p : ℕ) (rest : List A) : Type 0 where

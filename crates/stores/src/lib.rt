@@ -34,7 +34,7 @@ pub fn put_byte(out: &mut [u8], at: usize, b: u8)
     }
 }
 
-// The same of bytes.
+// Puts bytes from `at` on, and hands back the place past them.
 pub fn put_bytes(out: &mut [u8], at: usize, bytes: &[u8]) -> usize
     requires { ⌜ at + length (now bytes) ≤ 1000000000 ⌝ }
     ensures { λ r. ⌜ Put (now (out .entry)) at (now (bytes .entry)) r (now (out .exit)) ⌝ }

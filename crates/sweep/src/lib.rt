@@ -22,7 +22,7 @@ fn next_words(p: [i64; COORDINATES]) -> [i64; COORDINATES]
 }
 
 // The negative of each word.
-pub fn mirrored(p: [i64; COORDINATES]) -> [i64; COORDINATES]
+fn mirrored(p: [i64; COORDINATES]) -> [i64; COORDINATES]
     requires { ⌜ Near p ⌝ }
     ensures { λ r. ⌜ r ≡ mirror p ⌝ }
 {

@@ -11,7 +11,7 @@ ghost use Rattle.integers.specs.Integer.{nat, eqZ, within};
 ghost use Rattle.integers.specs.Below.{UpTo};
 ghost use Rattle.integers.specs.Bits.{bit};
 ghost use Rattle.integers.specs.Words.{word};
-ghost use Rattle.sheet.specs.Layout.{dims, axes, boxes, rules, shapeOf, isOf, offset, size};
+ghost use Rattle.sheet.specs.Layout.{dims, axes, boxes, rules, shapeOf, offset, size};
 ghost use Rattle.sheet.specs.Layout.{kind, isNonOverlap, isContainment, dimSet, rowSet, namesDim, namesRow, roomLow, roomHigh};
 ghost use Rattle.sheet.specs.Layout.{rowLen, rows, shapeSet, hasShape, low, high};
 ghost use Rattle.sheet.specs.Accepted.{Count, Head, Rows};
@@ -31,7 +31,7 @@ pub fn is_within(w: i64, lo: i64, hi: i64) -> bool
     lo <= w && w <= hi
 }
 
-pub fn word_at(words: &[i64], at: usize) -> i64
+fn word_at(words: &[i64], at: usize) -> i64
     requires { ⌜ at < length (now words) ⌝ }
     ensures { λ r. ⌜ r ≡ word (now (words .entry)) at ⌝ }
 {
@@ -54,7 +54,7 @@ pub fn count_at(words: &[i64], at: usize) -> usize
     w as usize
 }
 
-pub fn word_is(words: &[i64], at: usize, n: usize) -> bool
+fn word_is(words: &[i64], at: usize, n: usize) -> bool
     requires { ⌜ (at < length (now words)) × Count (word (now words) at) ⌝ }
     ensures { λ r. ⌜ r ≡ eqZ (word (now (words .entry)) at) (pos n) ⌝ }
 {
@@ -168,22 +168,13 @@ pub fn shape_of(block: &[i64], b: Place) -> i64
     word_at(block, at)
 }
 
-// The shape's number.
+// A box's shape, as a number.
 pub fn shape_number(block: &[i64], b: Place) -> usize
     requires { ⌜ BoxPlace (now block) b × Count (shapeOf (now block) (b .number)) ⌝ }
     ensures { λ r. ⌜ r ≡ nat (shapeOf (now (block .entry)) (b .number)) ⌝ }
 {
     let at = b.at;
     count_at(block, at)
-}
-
-// Whether it is one of shape s.
-pub fn box_is(block: &[i64], b: Place, s: usize) -> bool
-    requires { ⌜ BoxPlace (now block) b × Count (shapeOf (now block) (b .number)) ⌝ }
-    ensures { λ r. ⌜ r ≡ isOf (now (block .entry)) (b .number) s ⌝ }
-{
-    let at = b.at;
-    word_is(block, at, s)
 }
 
 pub fn offset_of(block: &[i64], b: Place, d: usize) -> i64

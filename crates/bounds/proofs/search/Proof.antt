@@ -6,7 +6,6 @@ use mathlib.Core.List.{List}
 use Prim.Native.Nat.{ℕ, _<_}
 use borrow.Author.Needs.{needs}
 use borrow.Author.Tests.{not-true, not-false}
-use lib.ListN.{length}
 use lib.IntN.{ℤ}
 use Rattle.sheet.specs.Layout.{axes}
 use Rattle.points.proofs.Areas.{in-small}
@@ -15,7 +14,7 @@ use Rattle.sweep.specs.declared.Sweep.{Sweep}
 use Rattle.sweep.specs.Point.{turnedEnd}
 use Rattle.sweep.specs.Rotation.{rotation}
 use Rattle.sweep.specs.Moves.{advance, jumpedPast}
-use Rattle.bounds.proofs.Swept.{Swept, pointsLeft, Task, task-end-near, near-low, near-high, near-last}
+use Rattle.bounds.proofs.Swept.{Swept, pointsLeft, Task, Turn, task-end-near, near-low, near-high, near-last}
 use Rattle.bounds.proofs.Swept.{swept-start, swept-near, swept-in, swept-found, swept-on, swept-falls, swept-none}
 use Rattle.bounds.proofs.search.Statement.{statement}
 use Rattle.bounds.proofs.search.Tie as tie
@@ -126,29 +125,26 @@ returns c =
 
 -- ---- a region around the point, all of which is forbidden
 module _ (c : tie.After-turned-end3 Inv-loop μ-loop) where
-  abbrev asked : tie.After-region-at Inv-loop μ-loop
-  asked = c .before .before .before .before .before
+  abbrev met : tie.After-region-at Inv-loop μ-loop
+  met = c .before .before .before .before .before
 
-  hit : asked .region-at .result .hit ≡ true
+  hit : met .region-at .result .hit ≡ true
   hit = not-false _ (c .before .before .before .before .if1 .left)
 
   last-ends : c .turned-end3 .result
-      ≡ turnedEnd (entry (ends (asked .before .before)) .args .flip) (asked .region-at .result .area .low) (asked .region-at .result .area .high)
+      ≡ turnedEnd (entry (ends (met .before .before)) .args .flip) (met .region-at .result .area .low) (met .region-at .result .area .high)
   last-ends = c .turned-end3 .ensures
-
-  last-long : length (c .turned-end3 .result) ≡ 4
-  last-long = search needs
 
 turned-end-requires-3 : tie.Need-turned-end-requires-3 Inv-loop μ-loop
 turned-end-requires-3 c κs = near-low (c .before .before .before .before .region-at .ensures .0 .small)
 
 jumped-requires : tie.Need-jumped-requires Inv-loop μ-loop
 jumped-requires c κs =
-    let x = asked c in
+    let x = met c in
     near-last (entry (ends (x .before .before)) .args .flip) (x .region-at .result .area) (x .region-at .ensures .0 .small) (last-ends c)
 
 advanced-requires : tie.Need-advanced-requires Inv-loop μ-loop
-advanced-requires c κs = task-end-near (task (ends (asked (c .before) .before .before)))
+advanced-requires c κs = task-end-near (task (ends (met (c .before) .before .before)))
 
 -- ---- the sweep after its jump over the region
 module _ (c : tie.After-advanced Inv-loop μ-loop) where
@@ -171,31 +167,37 @@ module _ (c : tie.After-advanced Inv-loop μ-loop) where
       ∙ ap (advance (rotation (k b) (entry b .args .d)) (first b) (end b) (k b)) (c .before .jumped .ensures)
       ∙ ap (λ (n : ℕ). advance (rotation n (entry b .args .d)) (first b) (end b) n (jumpedPast w (region .turned-end3 .result))) (k-is b)
 
+  turn : Turn (block b) (rows b) (row b) (shape b) (entry b .args .d) (entry b .args .flip) (first b) (end b) w
+      (point .turned-point .result) (met region .region-at .result .area) (region .turned-end3 .result)
+  turn = record {
+    swept = loop point .loop .inv .0;
+    live = loop point .loop .inv .1;
+    point = point .turned-point .ensures;
+    around = met region .region-at .ensures .0 .around (hit region);
+    only = met region .region-at .ensures .0 .only (hit region);
+    ends = last-ends region;
+    long = search needs;
+  }
+
   next : Swept (block b) (rows b) (row b) (shape b) (entry b .args .d) (entry b .args .flip) (first b) (end b) (c .advanced .result)
-  next =
-      swept-on (task b) (rows b) (row b) (shape b) (loop point .loop .inv .0) (point .turned-point .ensures) (loop point .loop .inv .1)
-      (asked region .region-at .result .area) (asked region .region-at .ensures .0 .around (hit region))
-      (asked region .region-at .ensures .0 .only (hit region)) (last-ends region) (last-long region) moves
+  next = swept-on (task b) (rows b) (row b) (shape b) turn moves
 
   falls : c .advanced .result .live ≡ true
       → pointsLeft (block b) (entry b .args .d) (first b) (end b) (c .advanced .result) < pointsLeft (block b) (entry b .args .d) (first b) (end b) w
-  falls =
-      swept-falls (task b) (rows b) (row b) (shape b) (loop point .loop .inv .0) (point .turned-point .ensures) (loop point .loop .inv .1)
-      (asked region .region-at .result .area) (asked region .region-at .ensures .0 .around (hit region))
-      (asked region .region-at .ensures .0 .only (hit region)) (last-ends region) (last-long region) moves
+  falls = swept-falls (task b) (rows b) (row b) (shape b) turn moves
 
 returns-2 : tie.Need-returns-2 Inv-loop μ-loop
 returns-2 c =
     let a = c .before in (
       swept-none (task (b a)) (rows (b a)) (row (b a)) (shape (b a)) (next a) (not-true _ (c .if2 .taken)) (point a .turned-point .result),
-      asked (region a) .region-at .ensures .1,
+      met (region a) .region-at .ensures .1,
     )
 
 loop-less : tie.Need-loop-less Inv-loop μ-loop
 loop-less c = falls (c .before) (not-false _ (c .if2 .left))
 
 loop-again : tie.Need-loop-again Inv-loop μ-loop
-loop-again c = (next (c .before), not-false _ (c .if2 .left), asked (region (c .before)) .region-at .ensures .1)
+loop-again c = (next (c .before), not-false _ (c .if2 .left), met (region (c .before)) .region-at .ensures .1)
 
 pub search-spec : {M : Type 1} → statement M
 search-spec =

@@ -14,16 +14,17 @@ use Rattle.integers.specs.Words.{word}
 use Rattle.integers.proofs.Below.{last-or}
 use Rattle.sheet.specs.Layout.{low}
 use Rattle.words.proofs.Reading.{read-back}
+use Rattle.points.specs.Area.{coordinates}
 use Rattle.placement.proofs.origin.Statement.{statement}
 use Rattle.placement.proofs.origin.Tie as tie
 
 abbrev Inv-loop : tie.InvT-loop
-Inv-loop block table i k p₀ d₀ p d = (d ≤ k) × (length p ≡ 4) × ((e : ℕ) → e < d → word p e ≡ low block table (i .number) e)
+Inv-loop block table i k p₀ d₀ p d = (d ≤ k) × (length p ≡ coordinates) × ((e : ℕ) → e < d → word p e ≡ low block table (i .number) e)
 
 abbrev μ-loop : tie.MeasureT-loop
 μ-loop block table i k p₀ d₀ p d = k - d
 
-few : (c : tie.After-axes-of Inv-loop μ-loop) → c .axes-of .result ≤ 4
+few : (c : tie.After-axes-of Inv-loop μ-loop) → c .axes-of .result ≤ coordinates
 few c = let k = c .before .pre .0 .head .few-axes in omega (arith, c .axes-of .ensures)
 
 below-not : {e d : ℕ} → e < d → e ≡ d → ⊥

@@ -7,7 +7,7 @@ use denote.Ref.{now}
 use lib.IntN.{ℤ}
 use lib.ListN.{length}
 use Rattle.sheet.specs.Layout.{axes}
-use Rattle.points.specs.Area.{areaWords}
+use Rattle.points.specs.Area.{coordinates, areaWords}
 use Rattle.nearby.specs.Listing.{Listed}
 use Rattle.narrow.specs.Ends.{Edges, Widening}
 use Rattle.narrow.proofs.Taking.{edges-more}
@@ -26,8 +26,8 @@ abbrev μ-loop : tie.MeasureT-loop
 below-axes : (c : tie.In-loop Inv-loop μ-loop) → c .before .loop .d < axes (now (c .before .before .before .args .block))
 below-axes c = omega (arith, c .before .before .axes-of .ensures, c .loop-test .taken)
 
-below-4 : (c : tie.In-loop Inv-loop μ-loop) → c .before .loop .d < 4
-below-4 c = omega (arith, below-axes c, c .before .before .before .pre .0 .subject .accepted .head .few-axes)
+few-ends : (c : tie.In-loop Inv-loop μ-loop) → c .before .loop .d < coordinates
+few-ends c = omega (arith, below-axes c, c .before .before .before .pre .0 .subject .accepted .head .few-axes)
 
 -- other known areas, and other ends
 widening : (s : tie.Start Inv-loop μ-loop) {known ends : List ℤ} → let a = s .args in
@@ -64,7 +64,7 @@ widen-end-requires-2 c κs =
     )
 
 add-d : tie.Need-add-d Inv-loop μ-loop
-add-d c = omega (arith, below-4 (c .before .before .before .before .before .before .before .before))
+add-d c = omega (arith, few-ends (c .before .before .before .before .before .before .before .before))
 
 loop-less : tie.Need-loop-less Inv-loop μ-loop
 loop-less c = omega (arith, c .before .before .before .before .before .before .before .before .loop-test .taken)

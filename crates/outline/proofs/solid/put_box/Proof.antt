@@ -8,6 +8,7 @@ use lib.IntN.{ℤ, _+ℤ_}
 use Rattle.integers.specs.Integer.{Within}
 use Rattle.integers.proofs.Machine.{bnd, _+ʷ_, sum-fits, exact, within-by}
 use Rattle.sheet.specs.Layout.{dims, offset, size}
+use Rattle.points.specs.Area.{coordinates}
 use Rattle.outline.specs.declared.solid.Extent.{Extent}
 use Rattle.outline.specs.Places.{solidAt}
 use Rattle.outline.proofs.Hulls.{Written, written-none, written-more}
@@ -58,7 +59,7 @@ module _ (c : tie.In-loop Inv-loop μ-loop) where
   below : d < dims block
   below = omega (arith, place .before .dims-of .ensures, c .loop-test .taken)
 
-  small : d < 4
+  small : d < coordinates
   small = omega (arith, below, start .pre .0 .head .few-dims)
 
 offset-of-requires : tie.Need-offset-of-requires Inv-loop μ-loop

@@ -59,9 +59,9 @@ pub record Task (block : List ℤ) (d : ℕ) (flip : Bool) (a : Area) (first end
   pub first-long : length first ≡ coordinates
   pub end-long : length end ≡ coordinates
 
--- one turn of the sweep: its candidate stands for the point p, and x is an area around p, all of whose points are forbidden, that ends at last
+-- the sweep meets a region: its candidate stands for the point p, and x is an area around p, all of whose points are forbidden, that ends at last
 -- when it is turned
-pub record Turn (block t : List ℤ) (i s d : ℕ) (flip : Bool) (first end : List ℤ) (w : Sweep) (p : List ℤ) (x : Area) (last : List ℤ) : Type 0 where
+pub record Encounter (block t : List ℤ) (i s d : ℕ) (flip : Bool) (first end : List ℤ) (w : Sweep) (p : List ℤ) (x : Area) (last : List ℤ) : Type 0 where
   pub swept : Swept block t i s d flip first end w
   pub live : w .live ≡ true
   pub point : p ≡ turned flip (w .candidate)
@@ -150,26 +150,26 @@ module _ {block : List ℤ} {d : ℕ} {flip : Bool} {a : Area} {first end : List
                 not-bad p (g .1) (theorem .exhausted r l (turned flip p) (in-range p (g .0)));
           }
 
-    -- ---- the jump over the region that a turn met
-    module _ {w next : Sweep} {p : List ℤ} {x : Area} {last : List ℤ} (turn : Turn block t i s d flip first end w p x last)
+    -- ---- the jump over the region that the sweep met
+    module _ {w next : Sweep} {p : List ℤ} {x : Area} {last : List ℤ} (met : Encounter block t i s d flip first end w p x last)
         (moves : next ≡ advance (rotation (axes block) d) first end (axes block) (jumpedPast w last)) where
       turned-x : TurnedBox flip (x .low) (x .high) (turnedEnd flip (x .high) (x .low)) last
-      turned-x = record { start = refl; end = turn .ends }
+      turned-x = record { start = refl; end = met .ends }
 
       step : Step (axes block) (rotation (axes block) d) first end Bad w next
       step =
           record {
-            live = turn .live;
+            live = met .live;
             first = turnedEnd flip (x .high) (x .low);
             last = last;
-            long = omega (arith, task .few, turn .long);
-            around = box-in turned-x (subst (InBox (axes block) (x .low) (x .high)) (turn .point) (area-box p (turn .around)));
-            bad = λ q b c. turn .only (turned flip q) (box-area (turned flip q) (box-out turned-x c));
+            long = omega (arith, task .few, met .long);
+            around = box-in turned-x (subst (InBox (axes block) (x .low) (x .high)) (met .point) (area-box p (met .around)));
+            bad = λ q b c. met .only (turned flip q) (box-area (turned flip q) (box-out turned-x c));
             next = moves;
           }
 
       pub swept-on : Swept block t i s d flip first end next
-      swept-on = onward (turn .swept) step
+      swept-on = onward (met .swept) step
 
       pub swept-falls : next .live ≡ true → pointsLeft block d first end next < pointsLeft block d first end w
-      swept-falls l = theorem .falls (turn .swept) step l
+      swept-falls l = theorem .falls (met .swept) step l

@@ -16,7 +16,7 @@ use Rattle.sheet.proofs.Forbidden.{shapes-parts}
 use Rattle.words.specs.declared.Place.{Place}
 use Rattle.outline.specs.Places.{hullOf}
 use Rattle.outline.specs.Outline.{Outline}
-use Rattle.outline.proofs.Solids.{inside-refl}
+use Rattle.outline.proofs.Solids.{lies-in-refl}
 use Rattle.forbid.proofs.Solids.{forbidsTo, solids-wider, solids-boxes}
 
 -- a walk along the boxes of shape s stands at box n, or past all boxes, and every box of s before n is P
@@ -58,7 +58,7 @@ module _ (block t o : List ℤ) (r : Place) (s : ℕ) (j : Place) (p : List ℤ)
     -- a box that is clear of the hull of s is clear of every box of s; h is the hull as the code holds it
     pub clear-hull : (c : ℕ) {h : ℕ} → h ≡ hullOf s → Boxed block s → forbidsTo block t o r j h c p ≡ false → ClearOf c
     clear-hull c q own e = record {
-      each = λ b h k. fails (λ f. clash (solids-wider block t o r j p (x .hulls s own .holds b h k) (inside-refl block o c) f) (rw (sym q) e));
+      each = λ b h k. fails (λ f. clash (solids-wider block t o r j p (x .hulls s own .holds b h k) (lies-in-refl block o c) f) (rw (sym q) e));
     }
 
     pub all-clear : {s' : ℕ} (i : ℕ) → EachOf block s' ClearOf → shapesForbid block t (r .number) p i s (j .number) s' ≡ false

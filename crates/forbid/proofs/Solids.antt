@@ -19,7 +19,7 @@ use Rattle.words.specs.declared.Place.{Place}
 use Rattle.words.specs.Places.{RulePlace, RowPlace}
 use Rattle.outline.specs.Places.{solids, hullOf}
 use Rattle.outline.specs.Chain.{Sole}
-use Rattle.outline.specs.Solids.{Boxes, Inside, Modest}
+use Rattle.outline.specs.Solids.{Boxes, LiesIn, Modest}
 use Rattle.outline.specs.Outline.{Outline}
 use Rattle.outline.proofs.Solids.{box-modest, hull-near}
 use Rattle.forbid.specs.Pair.{PairPlaces, sideForbids, solidsForbid}
@@ -30,7 +30,7 @@ module _ (block t o : List ℤ) (r j : Place) where
   abbrev pub forbidsTo : ℕ → ℕ → List ℤ → Bool
   forbidsTo x y = solidsForbid block t o (record { r = r; own = x; j = j; other = y })
 
-  pub solids-wider : {own own' other other' : ℕ} (p : List ℤ) → Inside block o own own' → Inside block o other other'
+  pub solids-wider : {own own' other other' : ℕ} (p : List ℤ) → LiesIn block o own own' → LiesIn block o other other'
       → forbidsTo own other p ≡ true → forbidsTo own' other' p ≡ true
   unfolding solidsForbid sideForbids
   solids-wider p x y e = at-all (λ d h. true-implies (λ n.

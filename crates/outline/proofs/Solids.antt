@@ -12,7 +12,7 @@ use Rattle.integers.proofs.Machine.{within-by}
 use Rattle.sheet.specs.Layout.{dims, boxes, offset, size}
 use Rattle.sheet.specs.Accepted.{Boxed, Head, Block}
 use Rattle.outline.specs.Places.{shapesMost, solids, hullOf, solidAt, startOf, endOf, SameTo}
-use Rattle.outline.specs.Solids.{far, StartsAt, EndsAt, IsBox, Boxes, Inside, Modest, Hull}
+use Rattle.outline.specs.Solids.{far, StartsAt, EndsAt, IsBox, Boxes, LiesIn, Modest, Hull}
 use Rattle.outline.proofs.Chains.{shape-is}
 
 -- ---- the shapes that have a box
@@ -47,8 +47,8 @@ box-modest accepted all b l = record {
   ends = λ d k. within-by (all b l .ends d k) (end-within accepted l k);
 }
 
-pub inside-refl : (block o : List ℤ) (x : ℕ) → Inside block o x x
-inside-refl block o x = record { starts = λ d k. ≤ℤ-refl (startOf o x d); ends = λ d k. ≤ℤ-refl (endOf o x d) }
+pub lies-in-refl : (block o : List ℤ) (x : ℕ) → LiesIn block o x x
+lies-in-refl block o x = record { starts = λ d k. ≤ℤ-refl (startOf o x d); ends = λ d k. ≤ℤ-refl (endOf o x d) }
 
 -- ---- a run that has the same words before `at`, where the solids end
 module _ {at : ℕ} {block o o' : List ℤ} (head : Head block) (same : SameTo at o o') where
@@ -64,8 +64,8 @@ module _ {at : ℕ} {block o o' : List ℤ} (head : Head block) (same : SameTo a
   pub boxes-kept : solidAt (hullOf 0) ≤ at → Boxes block o → Boxes block o'
   boxes-kept l x b k = box-kept b (omega (arith, head .few-boxes)) (x b k)
 
-  inside-kept : (x y : ℕ) → solidAt (suc x) ≤ at → solidAt (suc y) ≤ at → Inside block o x y → Inside block o' x y
-  inside-kept x y l m i = record {
+  lies-in-kept : (x y : ℕ) → solidAt (suc x) ≤ at → solidAt (suc y) ≤ at → LiesIn block o x y → LiesIn block o' x y
+  lies-in-kept x y l m i = record {
     starts = λ d k. rw (start-kept x d l k, start-kept y d m k) (i .starts d k);
     ends = λ d k. rw (end-kept x d l k, end-kept y d m k) (i .ends d k);
   }
@@ -76,8 +76,8 @@ module _ {at : ℕ} {block o o' : List ℤ} (head : Head block) (same : SameTo a
       starts = λ d k. within-by (start-kept (hullOf s) d l k) (h .modest .starts d k);
       ends = λ d k. within-by (end-kept (hullOf s) d l k) (h .modest .ends d k);
     };
-    holds = λ b k e. inside-kept b (hullOf s) (omega (arith, head .few-boxes)) l (h .holds b k e);
+    holds = λ b k e. lies-in-kept b (hullOf s) (omega (arith, head .few-boxes)) l (h .holds b k e);
     starts-at = λ d k. starts-later (omega arith) (start-kept (hullOf s) d l k) (h .starts-at d k);
     ends-at = λ d k. ends-later (omega arith) (end-kept (hullOf s) d l k) (h .ends-at d k);
-    sole = λ b x. inside-kept (hullOf s) b l (omega (arith, head .few-boxes, x .below)) (h .sole b x);
+    sole = λ b x. lies-in-kept (hullOf s) b l (omega (arith, head .few-boxes, x .below)) (h .sole b x);
   }

@@ -57,7 +57,7 @@ module _ (block : List ℤ) where
       pub shape : Boxed block s
 
     -- solid x lies in solid y
-    pub record Inside (x y : ℕ) : Type 0 where
+    pub record LiesIn (x y : ℕ) : Type 0 where
       pub starts : (d : ℕ) → d < dims block → startOf o y d ≤ℤ startOf o x d
       pub ends : (d : ℕ) → d < dims block → endOf o x d ≤ℤ endOf o y d
 
@@ -69,7 +69,7 @@ module _ (block : List ℤ) where
     -- the hull of shape s holds its boxes, and starts and ends where one of them does: it is its box where it has one
     pub record Hull (s : ℕ) : Type 0 where
       pub modest : Modest (hullOf s)
-      pub holds : (b : ℕ) → b < boxes block → isOf block b s ≡ true → Inside b (hullOf s)
+      pub holds : (b : ℕ) → b < boxes block → isOf block b s ≡ true → LiesIn b (hullOf s)
       pub starts-at : (d : ℕ) → d < dims block → StartsAt s d (boxes block) (startOf o (hullOf s) d)
       pub ends-at : (d : ℕ) → d < dims block → EndsAt s d (boxes block) (endOf o (hullOf s) d)
-      pub sole : (b : ℕ) → SoleBox block s b → Inside (hullOf s) b
+      pub sole : (b : ℕ) → SoleBox block s b → LiesIn (hullOf s) b

@@ -8,7 +8,7 @@ ghost use Rattle.sheet.specs.Layout.{boxes, isOf};
 ghost use Rattle.sheet.specs.Accepted.{Head, Block};
 ghost use Rattle.outline.specs.Places.{shapesMost, firstAt};
 ghost use Rattle.outline.specs.Chain.{Chained, ChainedFrom, Linked, Sole};
-use crate::FIRST;
+use crate::FIRSTS;
 use crate::OUTLINE;
 use crate::SHAPES;
 use crate::put;
@@ -20,7 +20,7 @@ fn unlink(outline: &mut [i64; OUTLINE], n: usize)
 {
     let mut s = 0;
     while s < SHAPES {
-        put(outline, FIRST + s, n);
+        put(outline, FIRSTS + s, n);
         s += 1;
     }
 }
@@ -32,9 +32,9 @@ fn link(block: &[i64], outline: &mut [i64; OUTLINE], b: usize)
 {
     let place = words::box_place(block, b);
     let s = words::shape_number(block, place);
-    let first = words::count_at(outline, FIRST + s);
+    let first = words::count_at(outline, FIRSTS + s);
     put(outline, b, first);
-    put(outline, FIRST + s, b);
+    put(outline, FIRSTS + s, b);
 }
 
 // Links the boxes of each shape, from the last box to the first.
@@ -57,7 +57,7 @@ pub fn first_of(block: &[i64], outline: &[i64; OUTLINE], s: usize) -> usize
     ensures { λ r. ⌜ (r ≤ boxes (now (block .entry))) × (r < boxes (now (block .entry)) → isOf (now (block .entry)) r s ≡ true)
         × ((c : ℕ) → c < r → isOf (now (block .entry)) c s ≡ false) ⌝ }
 {
-    words::count_at(outline, FIRST + s)
+    words::count_at(outline, FIRSTS + s)
 }
 
 // The next box of shape s after box b, which is one; the number of boxes where there is none.

@@ -18,14 +18,14 @@ use sheet::BOXES;
 // One more than the greatest shape number: there is no shape 0.
 const SHAPES: usize = 33;
 
-// The first box of shape s stands at FIRST + s.
-const FIRST: usize = BOXES;
+// The first box of shape s stands at FIRSTS + s.
+const FIRSTS: usize = BOXES;
 
 // The set of the rules that count.
-const RULES: usize = FIRST + SHAPES;
+const COUNTING: usize = FIRSTS + SHAPES;
 
 // Solid x starts at the words from SOLIDS + SOLID * x on, one for each dimension, and ends at the words COORDINATES further on.
-const SOLIDS: usize = RULES + 1;
+const SOLIDS: usize = COUNTING + 1;
 
 const SOLID: usize = AREA_WORDS;
 

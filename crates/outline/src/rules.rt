@@ -12,8 +12,8 @@ ghost use Rattle.sheet.specs.Accepted.{Count, Block};
 ghost use Rattle.words.specs.Places.{RulePlace};
 ghost use Rattle.outline.specs.Places.{rulesAt, SameTo};
 ghost use Rattle.outline.specs.Rules.{Covers, CoveredBy, CountedTo, Rules};
+use crate::COUNTING;
 use crate::OUTLINE;
-use crate::RULES;
 use crate::put;
 use words::Place;
 
@@ -106,7 +106,7 @@ pub(crate) fn count_rules(block: &[i64], outline: &mut [i64; OUTLINE])
     ensures { λ _. ⌜ SameTo rulesAt (now (outline .entry)) (now (outline .exit)) × Rules (now (block .entry)) (now (outline .exit)) ⌝ }
 {
     let set = counted(block);
-    put(outline, RULES, set as usize);
+    put(outline, COUNTING, set as usize);
 }
 
 // Whether rule r counts.
@@ -114,7 +114,7 @@ pub fn rule_counts(outline: &[i64; OUTLINE], r: usize) -> bool
     requires { ⌜ Count (word (now outline) rulesAt) × (r < 32) ⌝ }
     ensures { λ x. ⌜ x ≡ bit (word (now (outline .entry)) rulesAt) r ⌝ }
 {
-    words::bit_at(outline, RULES, r)
+    words::bit_at(outline, COUNTING, r)
 }
 
 // The set of the rules that count, as the outline has it.
@@ -122,7 +122,7 @@ pub fn counting(outline: &[i64; OUTLINE]) -> u32
     requires { ⌜ Count (word (now outline) rulesAt) ⌝ }
     ensures { λ x. ⌜ x ≡ nat (word (now (outline .entry)) rulesAt) ⌝ }
 {
-    words::set_at(outline, RULES)
+    words::set_at(outline, COUNTING)
 }
 
 // How many rules count.
@@ -130,5 +130,5 @@ pub fn how_many(outline: &[i64; OUTLINE]) -> usize
     requires { ⌜ Count (word (now outline) rulesAt) ⌝ }
     ensures { λ x. ⌜ (x ≡ ones (nat (word (now (outline .entry)) rulesAt))) × (x ≤ 32) ⌝ }
 {
-    u32::count_ones(words::set_at(outline, RULES)) as usize
+    u32::count_ones(words::set_at(outline, COUNTING)) as usize
 }

@@ -47,8 +47,8 @@ module _ (block : List ℤ) (table : List ℤ) (i : ℕ) (f : List ℤ → Bool)
   abbrev from : ℤ
   from = low block table i d
 
-  abbrev reach : ℕ → Bool
-  reach c = reaches block table i f d (from +ℤ pos c)
+  abbrev is-reached : ℕ → Bool
+  is-reached c = reaches block table i f d (from +ℤ pos c)
 
   abbrev at : List ℤ → ℕ
   at p = nat (word p d -ℤ from)
@@ -59,12 +59,12 @@ module _ (block : List ℤ) (table : List ℤ) (i : ℕ) (f : List ℤ → Bool)
   below : (p : List ℤ) → f p ≡ true → at p < width from (high block table i d)
   below p e = let r = in-range block table i d p (ranged p e) hd in count-below (r .0) (r .1)
 
-  hit : (p : List ℤ) → f p ≡ true → reach (at p) ≡ true
+  hit : (p : List ℤ) → f p ≡ true → is-reached (at p) ≡ true
   hit p e = reaches-by block table i f agree d _ hd p (ranged p e) e (sym (counted p e))
 
   picked-extreme : {after : ℕ → ℕ → Type 0} {before : ℤ → ℤ → Type 0}
       → ((m n : ℕ) → after m n → before (from +ℤ pos m) (from +ℤ pos n))
-      → (o : Option ℕ) → Picked after (width from (high block table i d)) reach o → Extreme before f d (above from o)
+      → (o : Option ℕ) → Picked after (width from (high block table i d)) is-reached o → Extreme before f d (above from o)
   unfolding above
   picked-extreme mono none (no-number h) = nowhere (λ p e. clash (hit p e) (h (at p) (below p e)))
   picked-extreme {before = before} mono (some c) (number e h) =
@@ -74,11 +74,11 @@ module _ (block : List ℤ) (table : List ℤ) (i : ℕ) (f : List ℤ → Bool)
 
   pub least-by : Least f d (leastBy block table i f d)
   unfolding leastBy
-  least-by = picked-extreme {after = λ c b. c ≤ b} (λ m n h. counts from h) _ (least-picked _ reach)
+  least-by = picked-extreme {after = λ c b. c ≤ b} (λ m n h. counts from h) _ (least-picked _ is-reached)
 
   pub greatest-by : Greatest f d (greatestBy block table i f d)
   unfolding greatestBy
-  greatest-by = picked-extreme {after = λ c b. b ≤ c} (λ m n h. counts from h) _ (greatest-picked _ reach)
+  greatest-by = picked-extreme {after = λ c b. b ≤ c} (λ m n h. counts from h) _ (greatest-picked _ is-reached)
 
 -- ---- the points at which row i is allowed with shape s
 module _ (block : List ℤ) (table : List ℤ) (i s d : ℕ) (hd : d < axes block) where

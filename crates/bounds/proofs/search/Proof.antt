@@ -14,7 +14,7 @@ use Rattle.sweep.specs.declared.Sweep.{Sweep}
 use Rattle.sweep.specs.Point.{turnedEnd}
 use Rattle.sweep.specs.Rotation.{rotation}
 use Rattle.sweep.specs.Moves.{advance, jumpedPast}
-use Rattle.bounds.proofs.Swept.{Swept, pointsLeft, Task, Turn, task-end-near, near-low, near-high, near-last}
+use Rattle.bounds.proofs.Swept.{Swept, pointsLeft, Task, Encounter, task-end-near, near-low, near-high, near-last}
 use Rattle.bounds.proofs.Swept.{swept-start, swept-near, swept-in, swept-found, swept-on, swept-falls, swept-none}
 use Rattle.bounds.proofs.search.Statement.{statement}
 use Rattle.bounds.proofs.search.Tie as tie
@@ -167,9 +167,9 @@ module _ (c : tie.After-advanced Inv-loop μ-loop) where
       ∙ ap (advance (rotation (k b) (entry b .args .d)) (first b) (end b) (k b)) (c .before .jumped .ensures)
       ∙ ap (λ (n : ℕ). advance (rotation n (entry b .args .d)) (first b) (end b) n (jumpedPast w (region .turned-end3 .result))) (k-is b)
 
-  turn : Turn (block b) (rows b) (row b) (shape b) (entry b .args .d) (entry b .args .flip) (first b) (end b) w
+  encounter : Encounter (block b) (rows b) (row b) (shape b) (entry b .args .d) (entry b .args .flip) (first b) (end b) w
       (point .turned-point .result) (met region .region-at .result .area) (region .turned-end3 .result)
-  turn = record {
+  encounter = record {
     swept = loop point .loop .inv .0;
     live = loop point .loop .inv .1;
     point = point .turned-point .ensures;
@@ -180,11 +180,11 @@ module _ (c : tie.After-advanced Inv-loop μ-loop) where
   }
 
   next : Swept (block b) (rows b) (row b) (shape b) (entry b .args .d) (entry b .args .flip) (first b) (end b) (c .advanced .result)
-  next = swept-on (task b) (rows b) (row b) (shape b) turn moves
+  next = swept-on (task b) (rows b) (row b) (shape b) encounter moves
 
   falls : c .advanced .result .live ≡ true
       → pointsLeft (block b) (entry b .args .d) (first b) (end b) (c .advanced .result) < pointsLeft (block b) (entry b .args .d) (first b) (end b) w
-  falls = swept-falls (task b) (rows b) (row b) (shape b) turn moves
+  falls = swept-falls (task b) (rows b) (row b) (shape b) encounter moves
 
 returns-2 : tie.Need-returns-2 Inv-loop μ-loop
 returns-2 c =

@@ -61,7 +61,8 @@ pub record Task (block : List ℤ) (d : ℕ) (flip : Bool) (a : Area) (first end
 
 -- the sweep meets a region: its candidate stands for the point p, and x is an area around p, all of whose points are forbidden, that ends at last
 -- when it is turned
-pub record Encounter (block t : List ℤ) (i s d : ℕ) (flip : Bool) (first end : List ℤ) (w : Sweep) (p : List ℤ) (x : Area) (last : List ℤ) : Type 0 where
+pub record Encounter (block t : List ℤ) (i s d : ℕ) (flip : Bool) (first end : List ℤ) (w : Sweep) (p : List ℤ) (x : Area) (last : List ℤ)
+    : Type 0 where
   pub swept : Swept block t i s d flip first end w
   pub live : w .live ≡ true
   pub point : p ≡ turned flip (w .candidate)

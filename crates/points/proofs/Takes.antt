@@ -26,16 +26,18 @@ module _ (ends : List ℤ) (m : ℕ) (lo hi : ℤ) (long : length ends ≡ areaW
 
   written : (flip : Bool) → endAt flip m next ≡ cond flip hi lo
   written true = getD-set-same (set ends m lo) (coordinates + m) hi (pos 0) (omega (arith, length-set ends m lo))
-  written false = getD-set-other (set ends m lo) (coordinates + m) m hi (pos 0) (λ q. absurd (omega arith)) ∙ getD-set-same ends m lo (pos 0) (omega arith)
+  written false =
+      getD-set-other (set ends m lo) (coordinates + m) m hi (pos 0) (λ q. absurd (omega arith)) ∙ getD-set-same ends m lo (pos 0) (omega arith)
 
   others : (flip : Bool) (d : ℕ) → (d ≡ m → ⊥) → d < coordinates → endAt flip d next ≡ endAt flip d ends
   others true d n l =
       getD-set-other (set ends m lo) (coordinates + m) (coordinates + d) hi (pos 0) (λ q. n (omega arith))
       ∙ getD-set-other ends m (coordinates + d) lo (pos 0) (λ q. absurd (omega arith))
-  others false d n l = getD-set-other (set ends m lo) (coordinates + m) d hi (pos 0) (λ q. absurd (omega arith)) ∙ getD-set-other ends m d lo (pos 0) n
+  others false d n l =
+      getD-set-other (set ends m lo) (coordinates + m) d hi (pos 0) (λ q. absurd (omega arith)) ∙ getD-set-other ends m d lo (pos 0) n
 
-  pub taken-more : {old p : List ℤ} → Taken m old p ends → lo ≡ minZ (word ends m) (word p m) → hi ≡ maxZ (word (set ends m lo) (coordinates + m)) (word p m)
-      → Taken (m + 1) old p next
+  pub taken-more : {old p : List ℤ} → Taken m old p ends → lo ≡ minZ (word ends m) (word p m)
+      → hi ≡ maxZ (word (set ends m lo) (coordinates + m)) (word p m) → Taken (m + 1) old p next
   taken-more {old} {p} x el eh = record {
     moved = λ flip d l. ⊎-elim
         (λ q. subst (λ (e : ℕ). endAt flip e next ≡ farther flip (endAt flip e old) (word p e)) (sym q) (written flip ∙ here flip))

@@ -176,5 +176,6 @@ module _ (block : List ℤ) where
     narrow-again =
         unmoved i from upto v e (λ n. record { set = refl; lows = λ d l. refl; highs = λ d l. refl }) (λ ne. absurd (ne refl))
 
-    pub narrow-harmless : (j : ℕ) → 1 ≤ j → j ≤ rows block t → (j ≡ i → ⊥) → Harmless v i j → narrowOf block t j ≡ some t → narrowOf block v j ≡ some v
+    pub narrow-harmless : (j : ℕ) → 1 ≤ j → j ≤ rows block t → (j ≡ i → ⊥) → Harmless v i j → narrowOf block t j ≡ some t
+        → narrowOf block v j ≡ some v
     narrow-harmless j h k ne harmless g = unmoved j h k t g (λ n. kept t v i from n j h ne) (λ z. harmless)

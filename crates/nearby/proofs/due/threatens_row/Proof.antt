@@ -1,5 +1,5 @@
--- `nearby::due::threatens_row` meets its contract: so far the shapes passed are forbidden no point of row i's ranges, and none is left where its set is
--- below the next. Assumes nothing.
+-- `nearby::due::threatens_row` meets its contract: so far the shapes passed are forbidden no point of row i's ranges, and none is left where
+-- its set is below the next. Assumes nothing.
 use mathlib.Core.Path.{_≡_, refl, sym, _∙_, subst}
 use mathlib.Core.Logic.{⊎-elim}
 use mathlib.Core.Bool.{true}

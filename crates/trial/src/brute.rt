@@ -1,8 +1,12 @@
 // Document 01's "What is allowed" by definition, and narrowing and settling with every point tried. It shares no code with the kernel.
 use super::layout;
+use super::layout::RECORD;
+use super::layout::with_word;
+use super::layout::word;
 use super::numbers;
 use super::numbers::coordinate;
 use super::numbers::difference;
+use super::numbers::place;
 use super::numbers::plus;
 use super::numbers::sum;
 
@@ -13,17 +17,17 @@ pub const NONE: i64 = -1;
 
 fn in_ranges(block: &[i64], table: &[i64], i: usize, p: [i64; 4]) -> bool {
     let k = layout::dims(block);
-    for d in 0..k {
-        let x = coordinate(p, d);
-        if !numbers::is_within(
-            x,
+    let mut d = 0;
+    while d < k
+        && numbers::is_within(
+            coordinate(p, d),
             layout::low(block, table, i, d),
             layout::high(block, table, i, d),
-        ) {
-            return false;
-        }
+        )
+    {
+        d = d + 1;
     }
-    true
+    d == k
 }
 
 // Box b, of a row at coordinate x of dimension d, lies in the room.
@@ -33,24 +37,25 @@ fn inside_in(block: &[i64], r: usize, b: usize, d: usize, x: i64) -> bool {
     layout::room_low(block, r, d) <= start && end <= layout::room_high(block, r, d)
 }
 
+// In every named dimension.
 fn box_inside(block: &[i64], r: usize, b: usize, p: [i64; 4]) -> bool {
     let k = layout::dims(block);
-    for d in 0..k {
-        if layout::names_dim(block, r, d) && !inside_in(block, r, b, d, coordinate(p, d)) {
-            return false;
-        }
+    let mut d = 0;
+    while d < k
+        && (!layout::names_dim(block, r, d) || inside_in(block, r, b, d, coordinate(p, d)))
+    {
+        d = d + 1;
     }
-    true
+    d == k
 }
 
 pub(crate) fn shape_inside(block: &[i64], r: usize, s: usize, p: [i64; 4]) -> bool {
     let n = layout::boxes(block);
-    for b in 0..n {
-        if layout::is_of(block, b, s) && !box_inside(block, r, b, p) {
-            return false;
-        }
+    let mut b = 0;
+    while b < n && (layout::is_other(block, b, s) || box_inside(block, r, b, p)) {
+        b = b + 1;
     }
-    true
+    b == n
 }
 
 // Box b at coordinate x against box c of row j: from max + t' − t − l + 1 to min + t' + l' − t − 1.
@@ -74,8 +79,8 @@ fn forbidden_in(
     first <= x && x <= last
 }
 
-// In every named dimension.
-fn pair_forbids(
+// A pair of boxes forbids a point in every named dimension, or it allows it.
+fn pair_allows(
     block: &[i64],
     table: &[i64],
     r: usize,
@@ -85,18 +90,18 @@ fn pair_forbids(
     p: [i64; 4],
 ) -> bool {
     let k = layout::dims(block);
-    for d in 0..k {
-        if layout::names_dim(block, r, d)
-            && !forbidden_in(block, table, b, j, c, d, coordinate(p, d))
-        {
-            return false;
-        }
+    let mut d = 0;
+    while d < k
+        && (!layout::names_dim(block, r, d)
+            || forbidden_in(block, table, b, j, c, d, coordinate(p, d)))
+    {
+        d = d + 1;
     }
-    true
+    d < k
 }
 
-// Some box of shape s2 of row j.
-fn shape_forbids(
+// Box b and every box of shape s2 of row j.
+fn shape_allows(
     block: &[i64],
     table: &[i64],
     r: usize,
@@ -106,25 +111,32 @@ fn shape_forbids(
     p: [i64; 4],
 ) -> bool {
     let n = layout::boxes(block);
-    for c in 0..n {
-        if layout::is_of(block, c, s2) && pair_forbids(block, table, r, b, j, c, p) {
-            return true;
-        }
+    let mut c = 0;
+    while c < n && (layout::is_other(block, c, s2) || pair_allows(block, table, r, b, j, c, p)) {
+        c = c + 1;
     }
-    false
+    c == n
 }
 
-// How many shapes a set holds, and the last of them.
-pub(crate) fn shape_count(set: i64) -> usize {
-    let mut n = 0;
-    for s in 0..32 {
-        if numbers::has(set, s) {
-            n = plus(n, 1);
-        }
+// Every box of shape s.
+fn shapes_allow(
+    block: &[i64],
+    table: &[i64],
+    r: usize,
+    s: usize,
+    j: usize,
+    s2: usize,
+    p: [i64; 4],
+) -> bool {
+    let n = layout::boxes(block);
+    let mut b = 0;
+    while b < n && (layout::is_other(block, b, s) || shape_allows(block, table, r, b, j, s2, p)) {
+        b = b + 1;
     }
-    n
+    b == n
 }
 
+// The last shape of a set, and whether it is the only one.
 pub(crate) fn last_shape(set: i64) -> usize {
     let mut last = 0;
     for s in 0..32 {
@@ -135,29 +147,26 @@ pub(crate) fn last_shape(set: i64) -> usize {
     last
 }
 
-fn row_forbids(block: &[i64], table: &[i64], r: usize, s: usize, j: usize, p: [i64; 4]) -> bool {
-    let set = layout::shape_set(block, table, j);
-    if shape_count(set) != 1 {
-        return false;
-    }
-    let s2 = last_shape(set);
-    let n = layout::boxes(block);
-    for b in 0..n {
-        if layout::is_of(block, b, s) && shape_forbids(block, table, r, b, j, s2, p) {
-            return true;
-        }
-    }
-    false
+pub(crate) fn has_one_shape(set: i64) -> bool {
+    set == numbers::set_of(last_shape(set))
 }
 
-fn rule_forbids(block: &[i64], table: &[i64], r: usize, i: usize, s: usize, p: [i64; 4]) -> bool {
+// A row with more than one shape forbids nothing.
+fn row_allows(block: &[i64], table: &[i64], r: usize, s: usize, j: usize, p: [i64; 4]) -> bool {
+    let set = layout::shape_set(block, table, j);
+    !has_one_shape(set) || shapes_allow(block, table, r, s, j, last_shape(set), p)
+}
+
+// Every other row that the rule names.
+fn rows_allow(block: &[i64], table: &[i64], r: usize, i: usize, s: usize, p: [i64; 4]) -> bool {
     let n = layout::rows(block, table);
-    for j in 0..n {
-        if j != i && layout::names_row(block, r, j) && row_forbids(block, table, r, s, j, p) {
-            return true;
-        }
+    let mut j = 0;
+    while j < n
+        && (j == i || !layout::names_row(block, r, j) || row_allows(block, table, r, s, j, p))
+    {
+        j = j + 1;
     }
-    false
+    j == n
 }
 
 fn rule_allows(block: &[i64], table: &[i64], r: usize, i: usize, s: usize, p: [i64; 4]) -> bool {
@@ -167,20 +176,20 @@ fn rule_allows(block: &[i64], table: &[i64], r: usize, i: usize, s: usize, p: [i
     if layout::kind(block, r) == 2 {
         return shape_inside(block, r, s, p);
     }
-    !rule_forbids(block, table, r, i, s, p)
+    rows_allow(block, table, r, i, s, p)
+}
+
+fn rules_allow(block: &[i64], table: &[i64], i: usize, s: usize, p: [i64; 4]) -> bool {
+    let n = layout::rules(block);
+    let mut r = 0;
+    while r < n && rule_allows(block, table, r, i, s, p) {
+        r = r + 1;
+    }
+    r == n
 }
 
 pub(crate) fn allowed(block: &[i64], table: &[i64], i: usize, s: usize, p: [i64; 4]) -> bool {
-    if !in_ranges(block, table, i, p) {
-        return false;
-    }
-    let n = layout::rules(block);
-    for r in 0..n {
-        if !rule_allows(block, table, r, i, s, p) {
-            return false;
-        }
-    }
-    true
+    in_ranges(block, table, i, p) && rules_allow(block, table, i, s, p)
 }
 
 // ---- every point of a row's ranges, each widened by `more` at both ends
@@ -189,9 +198,6 @@ pub(crate) fn allowed(block: &[i64], table: &[i64], i: usize, s: usize, p: [i64;
 pub const MOST_POINTS: usize = 3000;
 
 fn width(block: &[i64], table: &[i64], i: usize, d: usize, more: i64) -> usize {
-    if d >= layout::dims(block) {
-        return 1;
-    }
     let span = difference(
         layout::high(block, table, i, d),
         layout::low(block, table, i, d),
@@ -201,158 +207,101 @@ fn width(block: &[i64], table: &[i64], i: usize, d: usize, more: i64) -> usize {
 }
 
 pub(crate) fn points(block: &[i64], table: &[i64], i: usize, more: i64) -> usize {
+    let k = layout::dims(block);
     let mut n = 1;
-    for d in 0..4 {
-        n = numbers::place(0, n, width(block, table, i, d, more));
+    for d in 0..k {
+        n = place(0, n, width(block, table, i, d, more));
         n = numbers::at_most(n, plus(MOST_POINTS, 1));
     }
     n
 }
 
-// A coordinate from position k on is any word.
-fn first_coordinate(block: &[i64], table: &[i64], i: usize, d: usize, more: i64) -> i64 {
-    if d >= layout::dims(block) {
-        return 77;
-    }
-    difference(layout::low(block, table, i, d), more)
-}
-
-// Point m of them.
+// Point m of them. A coordinate from position k on is any word.
 pub(crate) fn point(block: &[i64], table: &[i64], i: usize, m: usize, more: i64) -> [i64; 4] {
-    let mut p = [0i64; 4];
+    let k = layout::dims(block);
+    let mut p = [77i64; 4];
     let mut rest = m;
     for d in 0..4 {
-        let w = width(block, table, i, d, more);
-        let step = numbers::word_of(numbers::remainder(rest, w));
-        p[d] = sum(first_coordinate(block, table, i, d, more), step);
-        rest = numbers::quotient(rest, w);
+        if d < k {
+            let w = width(block, table, i, d, more);
+            let step = numbers::word_of(numbers::remainder(rest, w));
+            p[d] = sum(difference(layout::low(block, table, i, d), more), step);
+            rest = numbers::quotient(rest, w);
+        }
     }
     p
 }
 
-// Whether every row has few enough points to try.
-pub(crate) fn has_few_points(block: &[i64], table: &[i64]) -> bool {
+// Whether some row has more points than are tried.
+pub(crate) fn has_many_points(block: &[i64], table: &[i64]) -> bool {
     let n = layout::rows(block, table);
-    for i in 0..n {
-        if points(block, table, i, 1) > MOST_POINTS {
-            return false;
-        }
+    let mut i = 0;
+    while i < n && points(block, table, i, 1) <= MOST_POINTS {
+        i = i + 1;
     }
-    true
+    i < n
 }
 
 // ---- narrowing
 
-// The allowed points of some shapes of a row: the shapes that have one, and the smallest ranges that hold them. With no shape the ranges
-// say nothing.
-pub struct Reach {
-    pub set: i64,
-    pub low: [i64; 4],
-    pub high: [i64; 4],
-}
+// What is reached of a row: the shapes that have an allowed point, and the smallest ranges that hold these points. At first there is none.
+pub const NOWHERE: [i64; RECORD] = [
+    0,
+    i64::MAX,
+    i64::MIN,
+    i64::MAX,
+    i64::MIN,
+    i64::MAX,
+    i64::MIN,
+    i64::MAX,
+    i64::MIN,
+    0,
+    0,
+];
 
-pub(crate) fn nowhere() -> Reach {
-    let low = [0i64; 4];
-    let high = [0i64; 4];
-    Reach { set: 0, low, high }
-}
-
-// Both, with the shapes of `set`.
-fn joined(a: Reach, b: Reach, set: i64) -> Reach {
-    let a_low = a.low;
-    let a_high = a.high;
-    let b_low = b.low;
-    let b_high = b.high;
-    if a.set == 0 {
-        return Reach {
-            set,
-            low: b_low,
-            high: b_high,
-        };
+// With a point of shape s.
+fn with_point(row: [i64; RECORD], s: usize, p: [i64; 4]) -> [i64; RECORD] {
+    let mut r = with_word(row, 0, word(row, 0) | numbers::set_of(s));
+    for d in 0..4 {
+        let x = coordinate(p, d);
+        let low = place(1, 2, d);
+        let high = place(2, 2, d);
+        let lower = with_word(r, low, numbers::lesser(word(r, low), x));
+        let wider = with_word(lower, high, numbers::greater(word(r, high), x));
+        r = wider;
     }
-    let low = numbers::lesser_of(a_low, b_low);
-    let high = numbers::greater_of(a_high, b_high);
-    Reach { set, low, high }
+    r
 }
 
-fn with_point(block: &[i64], table: &[i64], i: usize, s: usize, m: usize, r: Reach) -> Reach {
-    let p = point(block, table, i, m, 0);
-    if !allowed(block, table, i, s, p) {
-        return r;
-    }
-    let set = numbers::set_of(s);
-    joined(
-        r,
-        Reach {
-            set,
-            low: p,
-            high: p,
-        },
-        set,
-    )
-}
-
-pub(crate) fn shape_reach(block: &[i64], table: &[i64], i: usize, s: usize) -> Reach {
-    let mut r = nowhere();
+// With the allowed points of shape s.
+pub(crate) fn shape_reach(
+    block: &[i64],
+    table: &[i64],
+    i: usize,
+    s: usize,
+    row: [i64; RECORD],
+) -> [i64; RECORD] {
     let n = points(block, table, i, 0);
+    let mut r = row;
     for m in 0..n {
-        r = with_point(block, table, i, s, m, r);
-    }
-    r
-}
-
-fn with_shape(block: &[i64], table: &[i64], i: usize, s: usize, r: Reach) -> Reach {
-    if !layout::has_shape(block, table, i, s) {
-        return r;
-    }
-    let mine = shape_reach(block, table, i, s);
-    if mine.set == 0 {
-        return r;
-    }
-    let set = sum(r.set, mine.set);
-    joined(r, mine, set)
-}
-
-fn row_reach(block: &[i64], table: &[i64], i: usize) -> Reach {
-    let mut r = nowhere();
-    for s in 0..32 {
-        r = with_shape(block, table, i, s, r);
-    }
-    r
-}
-
-// Puts the set and the ranges where the row stands.
-fn put_row(block: &[i64], table: &mut [i64], i: usize, r: Reach) {
-    let k = layout::dims(block);
-    let at = layout::row_place(k, i);
-    let low = r.low;
-    let high = r.high;
-    numbers::put(table, at, r.set);
-    for d in 0..k {
-        numbers::put(table, plus(at, numbers::place(1, 2, d)), coordinate(low, d));
-        numbers::put(
-            table,
-            plus(at, numbers::place(2, 2, d)),
-            coordinate(high, d),
-        );
-    }
-}
-
-fn is_row(block: &[i64], table: &[i64], i: usize, r: Reach) -> bool {
-    let low = r.low;
-    let high = r.high;
-    if layout::shape_set(block, table, i) != r.set {
-        return false;
-    }
-    let k = layout::dims(block);
-    for d in 0..k {
-        if layout::low(block, table, i, d) != coordinate(low, d)
-            || layout::high(block, table, i, d) != coordinate(high, d)
-        {
-            return false;
+        let p = point(block, table, i, m, 0);
+        if allowed(block, table, i, s, p) {
+            let wider = with_point(r, s, p);
+            r = wider;
         }
     }
-    true
+    r
+}
+
+fn row_reach(block: &[i64], table: &[i64], i: usize) -> [i64; RECORD] {
+    let mut r = NOWHERE;
+    for s in 0..32 {
+        if layout::has_shape(block, table, i, s) {
+            let wider = shape_reach(block, table, i, s, r);
+            r = wider;
+        }
+    }
+    r
 }
 
 // What narrowing a row did to the table.
@@ -360,14 +309,12 @@ const MOVED: i64 = 1;
 
 pub(crate) fn narrow_row(block: &[i64], table: &mut [i64], i: usize) -> i64 {
     let r = row_reach(block, table, i);
-    if r.set == 0 {
+    if word(r, 0) == 0 {
         return NONE;
     }
-    if is_row(block, table, i, r) {
-        return 0;
-    }
-    put_row(block, table, i, r);
-    MOVED
+    let k = layout::dims(block);
+    let moved = layout::put_record(table, layout::row_place(k, i), layout::row_len(k), r);
+    if moved { MOVED } else { 0 }
 }
 
 // ---- settling
@@ -388,11 +335,11 @@ fn pass(block: &[i64], table: &mut [i64]) -> i64 {
 // Passes until nothing moves. A pass that moves a word takes at least one number from a range or a shape from a set, so that the small
 // sheets of the trial are done long before the last turn. Where there is no layout the words are those at that moment.
 pub(crate) fn settle_rows(block: &[i64], table: &mut [i64]) -> i64 {
-    for _ in 0..10000usize {
-        let x = pass(block, table);
-        if x != MOVED {
-            return x;
-        }
+    let mut x = MOVED;
+    let mut turn = 0usize;
+    while turn < 10000 && x == MOVED {
+        x = pass(block, table);
+        turn = turn + 1;
     }
-    MOVED
+    x
 }

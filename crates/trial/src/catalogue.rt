@@ -12,7 +12,22 @@ fn is_past(block: &[i64], table: &[i64], i: usize, b: usize, j: usize, c: usize,
     start >= sum(other, layout::size(block, c, d))
 }
 
-// Some named dimension parts the two boxes.
+// Dimension d is named and parts the two boxes.
+fn parts(
+    block: &[i64],
+    table: &[i64],
+    r: usize,
+    i: usize,
+    b: usize,
+    j: usize,
+    c: usize,
+    d: usize,
+) -> bool {
+    layout::names_dim(block, r, d)
+        && (is_past(block, table, i, b, j, c, d) || is_past(block, table, j, c, i, b, d))
+}
+
+// Some dimension parts them.
 fn boxes_apart(
     block: &[i64],
     table: &[i64],
@@ -23,46 +38,40 @@ fn boxes_apart(
     c: usize,
 ) -> bool {
     let k = layout::dims(block);
-    for d in 0..k {
-        if layout::names_dim(block, r, d)
-            && (is_past(block, table, i, b, j, c, d) || is_past(block, table, j, c, i, b, d))
-        {
-            return true;
-        }
+    let mut d = 0;
+    while d < k && !parts(block, table, r, i, b, j, c, d) {
+        d = d + 1;
     }
-    false
+    d < k
 }
 
 fn box_apart(block: &[i64], table: &[i64], r: usize, i: usize, b: usize, j: usize) -> bool {
     let s = last_shape(layout::shape_set(block, table, j));
     let n = layout::boxes(block);
-    for c in 0..n {
-        if layout::is_of(block, c, s) && !boxes_apart(block, table, r, i, b, j, c) {
-            return false;
-        }
+    let mut c = 0;
+    while c < n && (layout::is_other(block, c, s) || boxes_apart(block, table, r, i, b, j, c)) {
+        c = c + 1;
     }
-    true
+    c == n
 }
 
 fn rows_apart(block: &[i64], table: &[i64], r: usize, i: usize, j: usize) -> bool {
     let s = last_shape(layout::shape_set(block, table, i));
     let n = layout::boxes(block);
-    for b in 0..n {
-        if layout::is_of(block, b, s) && !box_apart(block, table, r, i, b, j) {
-            return false;
-        }
+    let mut b = 0;
+    while b < n && (layout::is_other(block, b, s) || box_apart(block, table, r, i, b, j)) {
+        b = b + 1;
     }
-    true
+    b == n
 }
 
 // Row i and each row before it.
 fn row_apart(block: &[i64], table: &[i64], r: usize, i: usize) -> bool {
-    for j in 0..i {
-        if layout::names_row(block, r, j) && !rows_apart(block, table, r, i, j) {
-            return false;
-        }
+    let mut j = 0;
+    while j < i && (!layout::names_row(block, r, j) || rows_apart(block, table, r, i, j)) {
+        j = j + 1;
     }
-    true
+    j == i
 }
 
 fn row_meets(block: &[i64], table: &[i64], r: usize, i: usize) -> bool {
@@ -78,20 +87,18 @@ fn row_meets(block: &[i64], table: &[i64], r: usize, i: usize) -> bool {
 
 fn rule_holds(block: &[i64], table: &[i64], r: usize) -> bool {
     let n = layout::rows(block, table);
-    for i in 0..n {
-        if !row_meets(block, table, r, i) {
-            return false;
-        }
+    let mut i = 0;
+    while i < n && row_meets(block, table, r, i) {
+        i = i + 1;
     }
-    true
+    i == n
 }
 
 pub(crate) fn is_good(block: &[i64], table: &[i64]) -> bool {
     let n = layout::rules(block);
-    for r in 0..n {
-        if !rule_holds(block, table, r) {
-            return false;
-        }
+    let mut r = 0;
+    while r < n && rule_holds(block, table, r) {
+        r = r + 1;
     }
-    true
+    r == n
 }

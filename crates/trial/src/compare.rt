@@ -1,14 +1,22 @@
 // The kernel's answers held against those of brute force: every answer, and every word of every table that it left.
 use super::brute;
 use super::brute::NONE;
-use super::brute::Reach;
+use super::brute::NOWHERE;
 use super::findings;
+use super::findings::found;
 use super::generate;
+use super::generate::TABLE;
 use super::layout;
+use super::layout::RECORD;
+use super::layout::number;
+use super::layout::word;
 use super::numbers;
 use super::numbers::below;
 use super::numbers::from;
+use super::numbers::place;
+use super::plan;
 use super::refusals;
+use super::refusals::index;
 use super::tally::Tally;
 use sheet::Bound;
 use sheet::Narrowing;
@@ -22,7 +30,7 @@ fn is_refusal(g: i64, finding: i64) -> bool {
     0 < g && g == finding
 }
 
-pub(crate) fn point_is(answer: PointTest, finding: i64) -> bool {
+fn point_is(answer: PointTest, finding: i64) -> bool {
     match answer {
         PointTest::Allowed => finding == 0,
         PointTest::NotAllowed => finding == NONE,
@@ -30,7 +38,7 @@ pub(crate) fn point_is(answer: PointTest, finding: i64) -> bool {
     }
 }
 
-pub(crate) fn bound_is(answer: Bound, finding: i64, x: i64) -> bool {
+fn bound_is(answer: Bound, finding: i64, x: i64) -> bool {
     match answer {
         Bound::At(y) => finding == 0 && x == y,
         Bound::Nothing => finding == NONE,
@@ -38,7 +46,7 @@ pub(crate) fn bound_is(answer: Bound, finding: i64, x: i64) -> bool {
     }
 }
 
-pub(crate) fn narrowing_is(answer: Narrowing, finding: i64) -> bool {
+fn narrowing_is(answer: Narrowing, finding: i64) -> bool {
     match answer {
         Narrowing::Narrowed => finding == 0,
         Narrowing::NoPlace => finding == NONE,
@@ -46,7 +54,7 @@ pub(crate) fn narrowing_is(answer: Narrowing, finding: i64) -> bool {
     }
 }
 
-pub(crate) fn settling_is(answer: Settling, finding: i64) -> bool {
+fn settling_is(answer: Settling, finding: i64) -> bool {
     match answer {
         Settling::Settled => finding == 0,
         Settling::NoLayout => finding == NONE,
@@ -54,7 +62,7 @@ pub(crate) fn settling_is(answer: Settling, finding: i64) -> bool {
     }
 }
 
-pub(crate) fn verdict_is(answer: Verdict, finding: i64) -> bool {
+fn verdict_is(answer: Verdict, finding: i64) -> bool {
     match answer {
         Verdict::Good => finding == 0,
         Verdict::NotGood => finding == NONE,
@@ -64,35 +72,21 @@ pub(crate) fn verdict_is(answer: Verdict, finding: i64) -> bool {
 
 // ---- points, and least and greatest coordinates
 
-// Row i and shape s at point m of the widened ranges.
-fn point(t: Tally, block: &[i64], table: &[i64], i: usize, s: usize, m: usize) -> Tally {
-    let p = brute::point(block, table, i, m, 1);
-    let finding = if brute::allowed(block, table, i, s, p) {
-        0
-    } else {
-        NONE
-    };
-    let answer = placement::point_allowed(
-        block,
-        table,
-        layout::row_number(i),
-        layout::shape_number(s),
-        p,
-    );
-    t.compared(point_is(answer, finding))
-}
-
+// Row i and shape s at every point of the widened ranges.
 fn points(t: Tally, block: &[i64], table: &[i64], i: usize, s: usize) -> Tally {
     let n = brute::points(block, table, i, 1);
     let mut u = t;
     for m in 0..n {
-        u = point(u, block, table, i, s, m);
+        let p = brute::point(block, table, i, m, 1);
+        let finding = found(brute::allowed(block, table, i, s, p));
+        let answer = placement::point_allowed(block, table, number(i), number(s), p);
+        u = u.compared(point_is(answer, finding));
     }
     u
 }
 
-// The least and the greatest coordinate in dimension dim, where r is what brute force reaches.
-fn ends(
+// The least and the greatest coordinate in dimension dim, where r is the row that brute force reaches.
+pub(crate) fn ends(
     t: Tally,
     block: &[i64],
     table: &[i64],
@@ -100,20 +94,18 @@ fn ends(
     shape: i64,
     dim: i64,
     finding: i64,
-    r: Reach,
+    r: [i64; RECORD],
 ) -> Tally {
-    let low = r.low;
-    let high = r.high;
     let d = numbers::count_of(dim);
     let least = bounds::least(block, table, row, shape, dim);
     let greatest = bounds::greatest(block, table, row, shape, dim);
-    let u = t.compared(bound_is(least, finding, numbers::coordinate(low, d)));
-    u.compared(bound_is(greatest, finding, numbers::coordinate(high, d)))
+    let u = t.compared(bound_is(least, finding, word(r, place(1, 2, d))));
+    u.compared(bound_is(greatest, finding, word(r, place(2, 2, d))))
 }
 
 fn shape_ends(t: Tally, block: &[i64], table: &[i64], i: usize, s: usize) -> Tally {
-    let r = brute::shape_reach(block, table, i, s);
-    let finding = if r.set == 0 { NONE } else { 0 };
+    let r = brute::shape_reach(block, table, i, s, NOWHERE);
+    let finding = found(word(r, 0) != 0);
     let k = layout::dims(block);
     let mut u = t;
     for d in 0..k {
@@ -121,8 +113,8 @@ fn shape_ends(t: Tally, block: &[i64], table: &[i64], i: usize, s: usize) -> Tal
             u,
             block,
             table,
-            layout::row_number(i),
-            layout::shape_number(s),
+            number(i),
+            number(s),
             numbers::word_of(d),
             finding,
             r,
@@ -131,49 +123,55 @@ fn shape_ends(t: Tally, block: &[i64], table: &[i64], i: usize, s: usize) -> Tal
     u
 }
 
-fn shape(t: Tally, block: &[i64], table: &[i64], i: usize, s: usize) -> Tally {
-    if !layout::has_shape(block, table, i, s) {
-        return t;
+// Each shape that the row has.
+fn shapes(t: Tally, block: &[i64], table: &[i64], i: usize) -> Tally {
+    let mut u = t;
+    for s in 0..32 {
+        if layout::has_shape(block, table, i, s) {
+            u = shape_ends(u, block, table, i, s);
+            u = points(u, block, table, i, s);
+        }
     }
-    let u = shape_ends(t, block, table, i, s);
-    points(u, block, table, i, s)
+    u
 }
 
-// ---- narrowing, settling, judging
+// ---- narrowing a row, and settling
 
-fn narrowed_by_kernel(block: &[i64], table: &[i64], kernel: &mut [i64], row: i64) -> Narrowing {
-    numbers::copy(kernel, table);
-    narrow::narrow(block, kernel, row)
+// What the kernel does to the words of a table, which is settled or of which a row is narrowed: whether it answers as was found.
+fn kernel_answers(
+    block: &[i64],
+    words: &mut [i64],
+    is_settled: bool,
+    row: i64,
+    finding: i64,
+) -> bool {
+    if is_settled {
+        settling_is(settle::settle(block, words), finding)
+    } else {
+        narrowing_is(narrow::narrow(block, words, row), finding)
+    }
 }
 
-fn narrowed(block: &[i64], table: &[i64], ours: &mut [i64], row: i64) -> i64 {
-    numbers::copy(ours, table);
-    findings::narrowing(block, ours, row)
-}
-
-fn narrowing(
+// The kernel's answer and the words that it leaves, where `ours` are those that brute force left.
+pub(crate) fn kernel(
     t: Tally,
     block: &[i64],
     table: &[i64],
-    kernel: &mut [i64],
-    ours: &mut [i64],
+    ours: &[i64],
+    is_settled: bool,
     row: i64,
+    finding: i64,
 ) -> Tally {
-    let answer = narrowed_by_kernel(block, table, kernel, row);
-    let finding = narrowed(block, table, ours, row);
-    let u = t.compared(narrowing_is(answer, finding));
-    u.compared(numbers::are_equal(kernel, ours))
+    let mut room = [0i64; TABLE];
+    let words = numbers::copied(&mut room, table);
+    let answers = kernel_answers(block, words, is_settled, row, finding);
+    let u = t.compared(answers);
+    u.compared(numbers::are_equal(words, ours))
 }
 
-fn settled_by_kernel(block: &[i64], table: &[i64], kernel: &mut [i64]) -> Settling {
-    numbers::copy(kernel, table);
-    settle::settle(block, kernel)
-}
-
-// Where there is no layout, the table is to be as it was.
-fn settled(block: &[i64], table: &[i64], ours: &mut [i64]) -> i64 {
-    numbers::copy(ours, table);
-    let finding = findings::settling(block, ours);
+// What brute force does to a copy of the table. Where there is no place or no layout, it is to be as it was.
+fn changed(block: &[i64], table: &[i64], ours: &mut [i64], is_settled: bool, row: i64) -> i64 {
+    let finding = findings::change(block, ours, is_settled, row);
     if finding != NONE {
         return finding;
     }
@@ -181,22 +179,24 @@ fn settled(block: &[i64], table: &[i64], ours: &mut [i64]) -> i64 {
     NONE
 }
 
-// A placement is not counted.
-fn settling(
+// Both. What settling finds of a sheet is counted, of a placement it is not.
+fn change(
     t: Tally,
     block: &[i64],
     table: &[i64],
-    kernel: &mut [i64],
-    ours: &mut [i64],
-    is_sheet: bool,
+    is_settled: bool,
+    row: i64,
+    is_counted: bool,
 ) -> Tally {
-    let answer = settled_by_kernel(block, table, kernel);
-    let finding = settled(block, table, ours);
+    let mut room = [0i64; TABLE];
+    let ours = numbers::copied(&mut room, table);
+    let finding = changed(block, table, ours, is_settled, row);
     let moved = !numbers::are_equal(ours, table);
-    let u = t.compared(settling_is(answer, finding));
-    let v = u.compared(numbers::are_equal(kernel, ours));
-    v.with_settling(is_sheet, finding, moved)
+    let u = kernel(t, block, table, ours, is_settled, row, finding);
+    u.with_settling(is_counted, finding, moved)
 }
+
+// ---- judging
 
 fn judging(t: Tally, block: &[i64], table: &[i64]) -> Tally {
     let finding = findings::verdict(block, table);
@@ -206,57 +206,33 @@ fn judging(t: Tally, block: &[i64], table: &[i64]) -> Tally {
 
 // ---- a row, handed out
 
+// The words of a row; none where there is a refusal.
 fn handing(t: Tally, block: &[i64], table: &[i64], row: i64) -> Tally {
-    let part = accept::row_slice(block, table, row);
+    let k = layout::dims(block);
     let g = refusals::row_refusal(block, table, row);
-    let n = layout::row_len(layout::dims(block));
-    let first = layout::row_place(layout::dims(block), refusals::index(row));
+    let n = if g > 0 { 0 } else { layout::row_len(k) };
     let u = t.compared(accept::row_refusal(block, table, row) == g);
-    if g > 0 {
-        return u.compared(part.len() == 0);
-    }
-    u.compared(part.len() == n && is_part(part, table, first))
-}
-
-// Whether the words of `part` are those of the table from `first` on.
-fn is_part(part: &[i64], table: &[i64], first: usize) -> bool {
-    let n = part.len();
-    for w in 0..n {
-        if numbers::at(part, w) != numbers::at(table, numbers::plus(first, w)) {
-            return false;
-        }
-    }
-    true
+    let part = accept::row_slice(block, table, row);
+    let first = layout::row_place(k, index(row));
+    u.compared(numbers::is_run(part, table, first, n))
 }
 
 // ---- requests by chance, most of which are refused
 
-fn some_row(seed: &mut usize, n: usize) -> i64 {
-    match below(seed, 12) {
-        0 => i64::MIN,
-        1 => 4294967297,
-        2 => 33,
-        _ => from(seed, -1, numbers::plus(n, 4)),
-    }
-}
+// Out of range in most cases.
+const ODD_ROWS: [i64; 3] = [i64::MIN, 4294967297, 33];
 
-fn some_shape(seed: &mut usize) -> i64 {
-    match below(seed, 10) {
-        0 => 33,
-        1 => 65,
-        2 => i64::MIN,
-        3 => 4294967297,
-        _ => from(seed, -1, 5),
-    }
-}
+const ODD_SHAPES: [i64; 4] = [33, 65, i64::MIN, 4294967297];
 
-fn some_dim(seed: &mut usize) -> i64 {
-    match below(seed, 12) {
-        0 => 64,
-        1 => 4294967296,
-        2 => i64::MIN,
-        _ => from(seed, -1, 6),
+const ODD_DIMS: [i64; 3] = [64, 4294967296, i64::MIN];
+
+// Once in `of` times each of the odd numbers, or else one of n from -1 on.
+fn some_number(seed: &mut usize, odd: &[i64], of: usize, n: usize) -> i64 {
+    let m = below(seed, of);
+    if m < odd.len() {
+        return numbers::at(odd, m);
     }
+    from(seed, -1, n)
 }
 
 fn some_point(seed: &mut usize) -> [i64; 4] {
@@ -275,148 +251,82 @@ fn some_point(seed: &mut usize) -> [i64; 4] {
 fn requested_ends(t: Tally, block: &[i64], table: &[i64], row: i64, shape: i64, dim: i64) -> Tally {
     let g = refusals::dim_refusal(block, table, row, shape, dim);
     if g > 0 {
-        return ends(t, block, table, row, shape, dim, g, brute::nowhere());
+        return ends(t, block, table, row, shape, dim, g, NOWHERE);
     }
-    let r = brute::shape_reach(block, table, refusals::index(row), refusals::index(shape));
-    let finding = if r.set == 0 { NONE } else { 0 };
-    ends(t, block, table, row, shape, dim, finding, r)
+    let r = brute::shape_reach(block, table, index(row), index(shape), NOWHERE);
+    ends(t, block, table, row, shape, dim, found(word(r, 0) != 0), r)
 }
 
-fn request(
-    t: Tally,
-    seed: &mut usize,
-    block: &[i64],
-    table: &[i64],
-    kernel: &mut [i64],
-    ours: &mut [i64],
-) -> Tally {
-    let row = some_row(seed, layout::rows(block, table));
-    let shape = some_shape(seed);
+fn request(t: Tally, seed: &mut usize, block: &[i64], table: &[i64]) -> Tally {
+    let n = numbers::plus(layout::rows(block, table), 4);
+    let row = some_number(seed, &ODD_ROWS, 12, n);
+    let shape = some_number(seed, &ODD_SHAPES, 10, 5);
     let p = some_point(seed);
-    let u = requested_ends(t, block, table, row, shape, some_dim(seed));
+    let dim = some_number(seed, &ODD_DIMS, 12, 6);
+    let u = requested_ends(t, block, table, row, shape, dim);
     let answer = placement::point_allowed(block, table, row, shape, p);
     let v = u.compared(point_is(answer, findings::point(block, table, row, shape, p)));
-    let w = narrowing(v, block, table, kernel, ours, row);
+    let w = change(v, block, table, false, row, false);
     handing(w, block, table, row)
 }
 
-fn requests(
-    t: Tally,
-    seed: &mut usize,
-    block: &[i64],
-    table: &[i64],
-    kernel: &mut [i64],
-    ours: &mut [i64],
-) -> Tally {
+fn requests(t: Tally, seed: &mut usize, block: &[i64], table: &[i64]) -> Tally {
     let mut u = t;
     for _ in 0..6usize {
-        u = request(u, seed, block, table, kernel, ours);
+        u = request(u, seed, block, table);
     }
     u
 }
 
 // ---- placements
 
-fn placed(
-    t: Tally,
-    seed: &mut usize,
-    block: &[i64],
-    table: &[i64],
-    fixed: &mut [i64],
-    kernel: &mut [i64],
-    ours: &mut [i64],
-) -> Tally {
-    numbers::copy(fixed, table);
-    generate::placement(seed, block, fixed);
+fn placed(t: Tally, seed: &mut usize, block: &[i64], table: &[i64]) -> Tally {
+    let mut room = [0i64; TABLE];
+    let fixed = numbers::copied(&mut room, table);
+    generate::fix(seed, fixed, layout::row_len(layout::dims(block)));
     let u = judging(t, block, fixed);
-    settling(u, block, fixed, kernel, ours, false)
+    change(u, block, fixed, true, 0, false)
 }
 
-fn placements(
-    t: Tally,
-    seed: &mut usize,
-    block: &[i64],
-    table: &[i64],
-    fixed: &mut [i64],
-    kernel: &mut [i64],
-    ours: &mut [i64],
-) -> Tally {
+fn placements(t: Tally, seed: &mut usize, block: &[i64], table: &[i64]) -> Tally {
     let mut u = t;
     for _ in 0..3usize {
-        u = placed(u, seed, block, table, fixed, kernel, ours);
+        u = placed(u, seed, block, table);
     }
     u
 }
 
 // ---- a sheet
 
-fn shapes(t: Tally, block: &[i64], table: &[i64], i: usize) -> Tally {
-    let mut u = t;
-    for s in 0..32 {
-        u = shape(u, block, table, i, s);
-    }
-    u
-}
-
-fn rows(t: Tally, block: &[i64], table: &[i64], kernel: &mut [i64], ours: &mut [i64]) -> Tally {
+fn rows(t: Tally, block: &[i64], table: &[i64]) -> Tally {
     let n = layout::rows(block, table);
     let mut u = t;
     for i in 0..n {
-        let v = narrowing(u, block, table, kernel, ours, layout::row_number(i));
-        u = shapes(v, block, table, i);
+        u = change(u, block, table, false, number(i), false);
+        u = shapes(u, block, table, i);
     }
     u
 }
 
-// What can be asked of a refused sheet too.
-fn asked(
-    t: Tally,
-    seed: &mut usize,
-    block: &[i64],
-    table: &[i64],
-    kernel: &mut [i64],
-    ours: &mut [i64],
-) -> Tally {
-    let u = judging(t, block, table);
-    let v = requests(u, seed, block, table, kernel, ours);
-    settling(v, block, table, kernel, ours, true)
-}
-
-fn accepted(
-    t: Tally,
-    seed: &mut usize,
-    block: &[i64],
-    table: &[i64],
-    fixed: &mut [i64],
-    kernel: &mut [i64],
-    ours: &mut [i64],
-) -> Tally {
-    let u = rows(t, block, table, kernel, ours);
-    placements(u, seed, block, table, fixed, kernel, ours)
-}
-
-// `fixed`, `kernel` and `ours` are runs of the table's length to work in. Where `whole` is not set, the rows and their points are asked
-// about by chance only.
+// Of a sheet with too many points only the refusal is compared. The rows and points of larger sheets are asked about by chance only.
 pub(crate) fn sheet(
     t: Tally,
     seed: &mut usize,
     block: &[i64],
     table: &[i64],
-    fixed: &mut [i64],
-    kernel: &mut [i64],
-    ours: &mut [i64],
-    whole: bool,
+    kind: usize,
 ) -> Tally {
     let g = refusals::refusal(block, table);
-    let large = g == 0 && !brute::has_few_points(block, table);
-    let u = t.with_sheet(g > 0, large);
-    let v = u.compared(accept::refusal(block, table) == g);
+    let large = g == 0 && brute::has_many_points(block, table);
+    let u = t.with_sheet(g > 0, large)
+        .compared(accept::refusal(block, table) == g);
     if large {
-        return v;
+        return u;
     }
-    let w = asked(v, seed, block, table, kernel, ours);
-    if g > 0 || !whole {
+    let v = requests(judging(u, block, table), seed, block, table);
+    let w = change(v, block, table, true, 0, true);
+    if g > 0 || kind == plan::LARGER {
         return w;
     }
-    accepted(w, seed, block, table, fixed, kernel, ours)
+    placements(rows(w, block, table), seed, block, table)
 }

@@ -2,35 +2,33 @@
 use super::brute;
 use super::brute::NONE;
 use super::catalogue;
+use super::numbers;
 use super::refusals;
 use super::refusals::index;
+
+// A yes or a no.
+pub(crate) fn found(yes: bool) -> i64 {
+    if yes { 0 } else { NONE }
+}
 
 pub(crate) fn point(block: &[i64], table: &[i64], row: i64, shape: i64, p: [i64; 4]) -> i64 {
     let g = refusals::shape_refusal(block, table, row, shape);
     if g > 0 {
         return g;
     }
-    if brute::allowed(block, table, index(row), index(shape), p) {
-        0
-    } else {
-        NONE
-    }
+    found(brute::allowed(block, table, index(row), index(shape), p))
 }
 
-pub(crate) fn narrowing(block: &[i64], table: &mut [i64], row: i64) -> i64 {
+fn narrowing(block: &[i64], table: &mut [i64], row: i64) -> i64 {
     let g = refusals::row_refusal(block, table, row);
     if g > 0 {
         return g;
     }
-    if brute::narrow_row(block, table, index(row)) == NONE {
-        NONE
-    } else {
-        0
-    }
+    numbers::lesser(brute::narrow_row(block, table, index(row)), 0)
 }
 
 // Where there is no layout the table's words are those at the end of the search.
-pub(crate) fn settling(block: &[i64], table: &mut [i64]) -> i64 {
+fn settling(block: &[i64], table: &mut [i64]) -> i64 {
     let g = refusals::refusal(block, table);
     if g > 0 {
         return g;
@@ -38,14 +36,18 @@ pub(crate) fn settling(block: &[i64], table: &mut [i64]) -> i64 {
     brute::settle_rows(block, table)
 }
 
+// Settles the table, or narrows a row.
+pub(crate) fn change(block: &[i64], table: &mut [i64], is_settled: bool, row: i64) -> i64 {
+    if is_settled {
+        return settling(block, table);
+    }
+    narrowing(block, table, row)
+}
+
 pub(crate) fn verdict(block: &[i64], table: &[i64]) -> i64 {
     let g = refusals::placement_refusal(block, table);
     if g > 0 {
         return g;
     }
-    if catalogue::is_good(block, table) {
-        0
-    } else {
-        NONE
-    }
+    found(catalogue::is_good(block, table))
 }

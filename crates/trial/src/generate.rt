@@ -1,31 +1,39 @@
-// Small sheets by chance: k from 1 to 4, one to four rows, one to three shapes, up to nine boxes, up to three rules of both kinds; sheets
-// with a word or a length that is out of its range; placements.
+// Sheets by chance, drawn record by record after a plan; sheets with a word or a length that is out of its range; placements.
 use super::layout;
+use super::layout::RECORD;
+use super::layout::put_record;
+use super::layout::with_word;
 use super::numbers;
 use super::numbers::below;
 use super::numbers::from;
+use super::numbers::one_of;
+use super::numbers::place;
 use super::numbers::plus;
+use super::numbers::power;
 use super::numbers::put;
 use super::numbers::sum;
+use super::plan;
+use super::plan::Pairs;
+use super::plan::Plan;
 
-// How many words of the lent runs a sheet takes.
+// A sheet is drawn into one run of words: its block from word 0 on, its table from word BLOCK on. These are the most words of both.
+pub const BLOCK: usize = 1507;
+
+pub const TABLE: usize = 288;
+
+pub const WORDS: usize = 1795;
+
+// How many words of both a sheet takes.
 pub struct Lengths {
     pub block: usize,
     pub table: usize,
 }
 
-// 2^n − 1 for n from 1 to 4.
-fn all(n: usize) -> usize {
-    match n {
-        1 => 1,
-        2 => 3,
-        3 => 7,
-        _ => 15,
-    }
-}
+// ---- sets
 
-fn one_of(seed: &mut usize, n: usize) -> bool {
-    below(seed, n) == 0
+// 2^n − 1.
+fn all(n: usize) -> usize {
+    numbers::before(power(n))
 }
 
 // A set of some of n members: every second time of all.
@@ -36,85 +44,114 @@ fn some_set(seed: &mut usize, n: usize) -> i64 {
     from(seed, 1, all(n))
 }
 
-// ---- boxes
+// ---- records
+
+// One that starts with three words: a rule's are its kind, its dimensions and its rows.
+fn record(a: i64, b: i64, c: i64) -> [i64; RECORD] {
+    [a, b, c, 0, 0, 0, 0, 0, 0, 0, 0]
+}
+
+// Every dimension.
+const EVERY: i64 = 31;
+
+// Within the limit.
+fn clipped(w: i64, limit: i64) -> i64 {
+    numbers::lesser(numbers::greater(w, numbers::difference(0, limit)), limit)
+}
+
+// The record with pair d.
+fn with_pair(record: [i64; RECORD], s: Pairs, d: usize, first: i64, second: i64) -> [i64; RECORD] {
+    let i = place(s.at, s.step, d);
+    let last = if s.is_range {
+        sum(first, second)
+    } else {
+        second
+    };
+    let r = with_word(record, i, clipped(first, s.limit));
+    with_word(r, plus(i, s.gap), clipped(last, s.limit))
+}
+
+// The record with a pair in each of the dimensions of a set.
+fn with_pairs(
+    seed: &mut usize,
+    record: [i64; RECORD],
+    s: Pairs,
+    k: usize,
+    dims: i64,
+) -> [i64; RECORD] {
+    let mut r = record;
+    for d in 0..k {
+        if numbers::has(dims, d) {
+            let first = from(seed, s.first, s.n);
+            let second = from(seed, s.then, s.more);
+            let next = with_pair(r, s, d, first, second);
+            r = next;
+        }
+    }
+    r
+}
 
 // The first box of each of the shapes, then boxes of any.
 fn box_shape(seed: &mut usize, shapes: usize, b: usize) -> i64 {
+    if shapes == 0 {
+        return 1;
+    }
     if b < shapes {
-        return layout::shape_number(b);
+        return layout::number(b);
     }
     from(seed, 1, shapes)
 }
 
-fn put_box(seed: &mut usize, block: &mut [i64], k: usize, shapes: usize, b: usize) {
-    let at = layout::box_place(k, b);
-    put(block, at, box_shape(seed, shapes, b));
-    for d in 0..k {
-        put(block, plus(at, plus(1, d)), from(seed, -2, 5));
-        put(block, plus(at, plus(plus(1, k), d)), from(seed, 1, 3));
-    }
+fn box_record(seed: &mut usize, p: Plan, b: usize) -> [i64; RECORD] {
+    let s = p.extents;
+    let shape = box_shape(seed, p.shapes, b);
+    with_pairs(seed, record(shape, 0, 0), s, p.k, EVERY)
 }
 
-fn put_boxes(seed: &mut usize, block: &mut [i64], k: usize, shapes: usize, n: usize) {
-    for b in 0..n {
-        put_box(seed, block, k, shapes, b);
-    }
-}
-
-// ---- rules
-
-// Within the ends of a range.
-fn clipped(w: i64) -> i64 {
-    numbers::lesser(numbers::greater(w, -1000000), 1000000)
-}
-
-// A room around the ranges, which start at `base`, where the rule names dimension d.
-fn put_room(seed: &mut usize, block: &mut [i64], at: usize, dims: i64, d: usize, base: i64) {
-    if !numbers::has(dims, d) {
-        return;
-    }
-    let low = from(seed, sum(base, -4), 5);
-    let high = from(seed, sum(low, 5), 9);
-    put(block, plus(at, numbers::place(3, 2, d)), clipped(low));
-    put(block, plus(at, numbers::place(4, 2, d)), clipped(high));
-}
-
-fn put_rooms(seed: &mut usize, block: &mut [i64], k: usize, at: usize, dims: i64, base: i64) {
-    for d in 0..k {
-        put_room(seed, block, at, dims, d, base);
-    }
-}
-
-fn put_rule(seed: &mut usize, block: &mut [i64], k: usize, n: usize, at: usize, base: i64) {
-    let dims = from(seed, 1, all(k));
-    put(block, plus(at, 1), dims);
-    put(block, plus(at, 2), some_set(seed, n));
+// Every third time with a room.
+fn some_rule(seed: &mut usize, p: Plan) -> [i64; RECORD] {
+    let s = p.rooms;
+    let dims = from(seed, 1, all(p.k));
+    let rows = some_set(seed, p.rows);
     if one_of(seed, 3) {
-        put(block, at, 2);
-        put_rooms(seed, block, k, at, dims, base);
-    } else {
-        put(block, at, 1);
+        return with_pairs(seed, record(2, dims, rows), s, p.k, dims);
     }
+    record(1, dims, rows)
 }
 
-fn put_rules(
-    seed: &mut usize,
-    block: &mut [i64],
-    k: usize,
-    boxes: usize,
-    n: usize,
-    rules: usize,
-    base: i64,
-) {
-    for r in 0..rules {
-        put_rule(seed, block, k, n, layout::rule_place(k, boxes, r), base);
-    }
+// The twentieth rule leaves out the first dimension, so that it forbids more than the others: a list that drops what it has no room for is
+// told.
+fn left_out(r: usize) -> i64 {
+    if r == 19 { 1 } else { 0 }
 }
 
-// ---- rows
+// No two rows but row r + 1 overlap: of rules that leave out different rows none covers another.
+fn rule_without(r: usize, k: usize, rows: usize) -> [i64; RECORD] {
+    let dims = numbers::difference(numbers::word_of(all(k)), left_out(r));
+    record(
+        1,
+        dims,
+        numbers::difference(numbers::word_of(all(rows)), numbers::set_of(r)),
+    )
+}
+
+// A position's rules have a room and name dimension 0 and row 1.
+fn rule_record(seed: &mut usize, p: Plan, r: usize) -> [i64; RECORD] {
+    let s = p.rooms;
+    if p.kind == plan::SMALL {
+        return some_rule(seed, p);
+    }
+    if p.kind == plan::POSITION {
+        return with_pairs(seed, record(2, 1, 1), s, p.k, 1);
+    }
+    rule_without(r, p.k, p.rows)
+}
 
 // Mostly one shape, so that the row forbids.
 fn row_shapes(seed: &mut usize, shapes: usize) -> i64 {
+    if shapes == 0 {
+        return 1;
+    }
     if one_of(seed, 3) {
         return some_set(seed, shapes);
     }
@@ -135,96 +172,105 @@ fn some_width(seed: &mut usize, k: usize) -> usize {
     }
 }
 
-fn put_row(seed: &mut usize, table: &mut [i64], k: usize, shapes: usize, i: usize, base: i64) {
-    let at = layout::row_place(k, i);
-    let widths = some_width(seed, k);
-    put(table, at, row_shapes(seed, shapes));
-    for d in 0..k {
-        let low = from(seed, base, 3);
-        put(table, plus(at, numbers::place(1, 2, d)), low);
-        put(
-            table,
-            plus(at, numbers::place(2, 2, d)),
-            from(seed, low, widths),
-        );
+fn row_record(seed: &mut usize, p: Plan) -> [i64; RECORD] {
+    let mut s = p.ranges;
+    if p.kind == plan::SMALL {
+        s.more = some_width(seed, p.k);
     }
-}
-
-fn put_rows(seed: &mut usize, table: &mut [i64], k: usize, shapes: usize, n: usize, base: i64) {
-    for i in 0..n {
-        put_row(seed, table, k, shapes, i, base);
-    }
+    let set = row_shapes(seed, p.shapes);
+    with_pairs(seed, record(set, 0, 0), s, p.k, EVERY)
 }
 
 // ---- sheets
 
-// Where the ranges start: around 0, or at an end of what a range may hold.
-fn some_base(seed: &mut usize) -> i64 {
-    match below(seed, 8) {
-        0 => -1000000,
-        1 => 999989,
-        _ => -3,
+// What a record is of.
+const BOX: usize = 0;
+
+const RULE: usize = 1;
+
+const ROW: usize = 2;
+
+// Record m of the boxes, the rules or the rows, and where it stands.
+fn drawn(seed: &mut usize, p: Plan, what: usize, m: usize) -> [i64; RECORD] {
+    match what {
+        BOX => box_record(seed, p, m),
+        RULE => rule_record(seed, p, m),
+        _ => row_record(seed, p),
     }
 }
 
-fn clear(words: &mut [i64]) {
-    let n = words.len();
-    for i in 0..n {
-        put(words, i, 0);
+fn place_of(p: Plan, what: usize, m: usize) -> usize {
+    match what {
+        BOX => layout::box_place(p.k, m),
+        RULE => layout::rule_place(p.k, p.boxes, m),
+        _ => plus(BLOCK, layout::row_place(p.k, m)),
     }
 }
 
-pub(crate) fn put_head(block: &mut [i64], k: usize, boxes: usize, rules: usize) {
-    clear(block);
-    put(block, 0, numbers::word_of(k));
-    put(block, 1, numbers::word_of(boxes));
-    put(block, 2, numbers::word_of(rules));
+fn put_records(seed: &mut usize, words: &mut [i64], p: Plan, what: usize, n: usize) {
+    for m in 0..n {
+        let r = drawn(seed, p, what, m);
+        put_record(words, place_of(p, what, m), RECORD, r);
+    }
 }
 
-// One that is to be accepted.
-fn accepted(seed: &mut usize, block: &mut [i64], table: &mut [i64]) -> Lengths {
-    let k = plus(1, below(seed, 4));
-    let n = numbers::at_most(plus(1, below(seed, 5)), 4);
-    let shapes = plus(1, below(seed, 3));
-    let boxes = plus(shapes, below(seed, numbers::place(1, 2, shapes)));
-    let rules = numbers::at_most(below(seed, 5), 3);
-    let base = some_base(seed);
-    put_head(block, k, boxes, rules);
-    put_boxes(seed, block, k, shapes, boxes);
-    put_rules(seed, block, k, boxes, n, rules, base);
-    put_rows(seed, table, k, shapes, n, base);
-    Lengths {
-        block: layout::rule_place(k, boxes, rules),
-        table: layout::row_place(k, n),
+// The words of a plan, where there are zeros.
+fn draw(seed: &mut usize, words: &mut [i64], p: Plan) {
+    let head = record(
+        numbers::word_of(p.k),
+        numbers::word_of(p.boxes),
+        numbers::word_of(p.rules),
+    );
+    put_record(words, 0, RECORD, head);
+    put_records(seed, words, p, BOX, p.boxes);
+    put_records(seed, words, p, RULE, p.rules);
+    put_records(seed, words, p, ROW, p.rows);
+}
+
+// Sheet m of a kind; of the small ones every fourth is spoiled.
+pub(crate) fn sheet(seed: &mut usize, words: &mut [i64], kind: usize, m: usize) -> Lengths {
+    let p = plan::of(seed, kind, m);
+    draw(seed, words, p);
+    let z = Lengths {
+        block: layout::rule_place(p.k, p.boxes, p.rules),
+        table: layout::row_place(p.k, p.rows),
+    };
+    if kind == plan::SMALL && one_of(seed, 4) {
+        return spoiled_again(seed, words, z);
     }
+    z
 }
 
 // ---- sheets to be refused
 
-// A word at or past the end of some range.
-fn odd_word(seed: &mut usize) -> i64 {
-    match below(seed, 20) {
-        0 => 0,
-        1 => 1,
-        2 => -1,
-        3 => 2,
-        4 => 3,
-        5 => 5,
-        6 => 32,
-        7 => 33,
-        8 => 129,
-        9 => 10000,
-        10 => 10001,
-        11 => -10000,
-        12 => -10001,
-        13 => 1000000,
-        14 => 1000001,
-        15 => -1000001,
-        16 => 4294967296,
-        17 => 4294967297,
-        18 => i64::MAX,
-        _ => i64::MIN,
-    }
+// Words at or past the end of some range.
+const ODD: [i64; 20] = [
+    0,
+    1,
+    -1,
+    2,
+    3,
+    5,
+    32,
+    33,
+    129,
+    10000,
+    10001,
+    -10000,
+    -10001,
+    1000000,
+    1000001,
+    -1000001,
+    4294967296,
+    4294967297,
+    i64::MAX,
+    i64::MIN,
+];
+
+// One of n words from `first` on is made odd.
+fn spoil(seed: &mut usize, words: &mut [i64], first: usize, n: usize) {
+    let i = plus(first, below(seed, n));
+    put(words, i, numbers::at(&ODD, below(seed, 20)));
 }
 
 // One more or one less.
@@ -236,72 +282,29 @@ fn odd_length(seed: &mut usize, n: usize) -> usize {
 }
 
 // Changes a word or a length, so that as a rule the sheet is refused.
-fn spoiled(seed: &mut usize, block: &mut [i64], table: &mut [i64], z: Lengths) -> Lengths {
-    let b = z.block;
-    let t = z.table;
+fn spoiled(seed: &mut usize, words: &mut [i64], z: Lengths) -> Lengths {
+    let mut y = z;
     match below(seed, 8) {
-        0 => Lengths {
-            block: odd_length(seed, b),
-            table: t,
-        },
-        1 => Lengths {
-            block: b,
-            table: odd_length(seed, t),
-        },
-        2 => Lengths {
-            block: below(seed, 4),
-            table: t,
-        },
-        3 => {
-            put(block, below(seed, 3), odd_word(seed));
-            z
-        }
-        4 | 5 => {
-            put(table, below(seed, t), odd_word(seed));
-            z
-        }
-        _ => {
-            put(block, below(seed, b), odd_word(seed));
-            z
-        }
+        0 => y.block = odd_length(seed, z.block),
+        1 => y.table = odd_length(seed, z.table),
+        2 => y.block = below(seed, 4),
+        3 => spoil(seed, words, 0, 3),
+        4 | 5 => spoil(seed, words, BLOCK, z.table),
+        _ => spoil(seed, words, 0, z.block),
     }
+    y
 }
 
 // Once or twice: of two grounds the first is to be found.
-fn spoiled_again(seed: &mut usize, block: &mut [i64], table: &mut [i64], z: Lengths) -> Lengths {
-    let y = spoiled(seed, block, table, z);
+fn spoiled_again(seed: &mut usize, words: &mut [i64], z: Lengths) -> Lengths {
+    let y = spoiled(seed, words, z);
     if one_of(seed, 2) {
         return y;
     }
-    spoiled(seed, block, table, y)
-}
-
-// A sheet; every fourth is spoiled.
-pub(crate) fn sheet(seed: &mut usize, block: &mut [i64], table: &mut [i64]) -> Lengths {
-    clear(table);
-    let z = accepted(seed, block, table);
-    if one_of(seed, 4) {
-        return spoiled_again(seed, block, table, z);
-    }
-    z
+    spoiled(seed, words, y)
 }
 
 // ---- placements
-
-fn fix_range(seed: &mut usize, table: &mut [i64], at: usize) {
-    let low = numbers::at(table, at);
-    let span = numbers::difference(numbers::at(table, plus(at, 1)), low);
-    let x = from(seed, low, plus(numbers::count_of(span), 1));
-    put(table, at, x);
-    put(table, plus(at, 1), x);
-}
-
-fn fix_row(seed: &mut usize, table: &mut [i64], k: usize, at: usize, set: i64) {
-    put(table, at, set);
-    for d in 0..k {
-        fix_range(seed, table, plus(at, numbers::place(1, 2, d)));
-    }
-}
 
 // The last shape of a set that is not past s, or else its first, as a set.
 fn one_shape(set: i64, s: usize) -> i64 {
@@ -314,13 +317,26 @@ fn one_shape(set: i64, s: usize) -> i64 {
     found
 }
 
-// Every row at a shape and a point of its own.
-pub(crate) fn placement(seed: &mut usize, block: &[i64], table: &mut [i64]) {
-    let k = layout::dims(block);
-    let n = layout::rows(block, table);
-    for i in 0..n {
-        let set = layout::shape_set(block, table, i);
-        let s = below(seed, 3);
-        fix_row(seed, table, k, layout::row_place(k, i), one_shape(set, s));
+// Word m of a table, word w of its row, when the row is fixed: a shape of its set, a point of its range, or, at the end of the range, the
+// word before.
+fn fixed_word(seed: &mut usize, table: &[i64], m: usize, w: usize, before: i64) -> i64 {
+    let low = numbers::at(table, m);
+    if w == 0 {
+        return one_shape(low, below(seed, 3));
+    }
+    if numbers::remainder(w, 2) == 0 {
+        return before;
+    }
+    let span = numbers::difference(numbers::at(table, plus(m, 1)), low);
+    from(seed, low, plus(numbers::count_of(span), 1))
+}
+
+// Every row, of `len` words, at a shape and a point of its own.
+pub(crate) fn fix(seed: &mut usize, table: &mut [i64], len: usize) {
+    let n = table.len();
+    let mut x = 0;
+    for m in 0..n {
+        x = fixed_word(seed, table, m, numbers::remainder(m, len), x);
+        put(table, m, x);
     }
 }

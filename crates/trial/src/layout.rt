@@ -5,6 +5,7 @@ use super::numbers::count_of;
 use super::numbers::has;
 use super::numbers::place;
 use super::numbers::plus;
+use super::numbers::put;
 use super::numbers::word_of;
 
 // ---- places
@@ -48,9 +49,9 @@ pub(crate) fn shape(block: &[i64], b: usize) -> i64 {
     box_word(block, b, 0)
 }
 
-// Whether box b is one of shape s.
-pub(crate) fn is_of(block: &[i64], b: usize, s: usize) -> bool {
-    shape(block, b) == shape_number(s)
+// Whether box b is one of another shape than s.
+pub(crate) fn is_other(block: &[i64], b: usize, s: usize) -> bool {
+    shape(block, b) != number(s)
 }
 
 pub(crate) fn offset(block: &[i64], b: usize, d: usize) -> i64 {
@@ -97,12 +98,12 @@ pub(crate) fn room_high(block: &[i64], r: usize, d: usize) -> i64 {
 
 // The n from 1 to 32 of which the table's length is n(1 + 2k), or 0.
 pub(crate) fn rows(block: &[i64], table: &[i64]) -> usize {
-    for n in 1..33 {
-        if table.len() == row_place(dims(block), n) {
-            return n;
-        }
+    let k = dims(block);
+    let mut n = 1;
+    while n < 33 && table.len() != row_place(k, n) {
+        n = n + 1;
     }
-    0
+    if n < 33 { n } else { 0 }
 }
 
 fn row_word(block: &[i64], table: &[i64], i: usize, w: usize) -> i64 {
@@ -127,10 +128,37 @@ pub(crate) fn high(block: &[i64], table: &[i64], i: usize, d: usize) -> i64 {
 
 // ---- what a request names
 
-pub(crate) fn row_number(i: usize) -> i64 {
+// The number of a row or a shape.
+pub(crate) fn number(i: usize) -> i64 {
     word_of(plus(i, 1))
 }
 
-pub(crate) fn shape_number(s: usize) -> i64 {
-    word_of(plus(s, 1))
+// ---- records
+
+// The words of a box, a rule or a row; a rule in four dimensions has this many.
+pub const RECORD: usize = 11;
+
+// Word w of a record, or 0 past its end.
+pub(crate) fn word(record: [i64; RECORD], w: usize) -> i64 {
+    if w < RECORD { record[w] } else { 0 }
+}
+
+pub(crate) fn with_word(record: [i64; RECORD], w: usize, x: i64) -> [i64; RECORD] {
+    let mut r = record;
+    if w < RECORD {
+        r[w] = x;
+    }
+    r
+}
+
+// Puts the first n words of a record where it stands, from `first` on, and says whether one of them was other.
+pub(crate) fn put_record(words: &mut [i64], first: usize, n: usize, record: [i64; RECORD]) -> bool {
+    let mut other = false;
+    for w in 0..n {
+        let i = plus(first, w);
+        let x = word(record, w);
+        other = other | (at(words, i) != x);
+        put(words, i, x);
+    }
+    other
 }

@@ -6,20 +6,45 @@ mod compare; // compare.rt: kernel and brute force
 mod edges; // edges.rt: the positions
 mod findings; // findings.rt: what brute force finds
 mod generate; // generate.rt: sheets by chance
-mod large; // large.rt: larger sheets by chance
 mod layout; // layout.rt: the words of a sheet
 mod numbers; // numbers.rt: sums and places
+mod plan; // plan.rt: what the sheets are made of
 mod refusals; // refusals.rt: the grounds
 mod tally; // tally.rt: what is counted
 
-use generate::Lengths;
+use generate::BLOCK;
+use generate::WORDS;
 use libc::STDOUT_FILENO;
 use tally::Tally;
 
-// How many sheets are tried, and how many larger ones of each kind.
+// How many small and how many larger sheets are tried.
 const SHEETS: usize = 10000;
 
-const LARGE: usize = 50;
+const LARGER: usize = 300;
+
+// Sheet m of a kind.
+fn sheet(t: Tally, seed: &mut usize, kind: usize, m: usize) -> Tally {
+    let mut words = [0i64; WORDS];
+    let z = generate::sheet(seed, &mut words, kind, m);
+    let block = numbers::part(&words, 0, z.block);
+    let table = numbers::part(&words, BLOCK, z.table);
+    if kind == plan::POSITION {
+        return edges::position(t, block, table, m);
+    }
+    compare::sheet(t, seed, block, table, kind)
+}
+
+// The first n sheets of a kind.
+fn sheets(kind: usize, n: usize, first: usize) -> Tally {
+    let mut seed = first;
+    let mut t = Tally::new();
+    for m in 0..n {
+        t = sheet(t, &mut seed, kind, m);
+    }
+    t
+}
+
+// ---- what is printed
 
 // A text and a number.
 fn print(text: &[u8], n: u64) {
@@ -27,91 +52,32 @@ fn print(text: &[u8], n: u64) {
     io::print_decimal(STDOUT_FILENO, n);
 }
 
-// The most words of a block and of a table.
-const BLOCK: usize = 1507;
-
-const TABLE: usize = 288;
-
-// A larger sheet of a kind; a small one where there is no such kind.
-fn generated(seed: &mut usize, block: &mut [i64], table: &mut [i64], kind: usize) -> Lengths {
-    if kind < large::KINDS {
-        return large::sheet(seed, block, table, kind);
-    }
-    generate::sheet(seed, block, table)
-}
-
-fn sheet(t: Tally, seed: &mut usize, kind: usize) -> Tally {
-    let mut block = [0i64; BLOCK];
-    let mut table = [0i64; TABLE];
-    let mut fixed = [0i64; TABLE];
-    let mut kernel = [0i64; TABLE];
-    let mut ours = [0i64; TABLE];
-    let z = generated(seed, &mut block, &mut table, kind);
-    let b = z.block;
-    let n = z.table;
-    if b > BLOCK || n > TABLE {
-        return t.compared(false);
-    }
-    compare::sheet(
-        t,
-        seed,
-        &block[..b],
-        &table[..n],
-        &mut fixed[..n],
-        &mut kernel[..n],
-        &mut ours[..n],
-        kind >= large::KINDS,
-    )
-}
-
-fn sheets(n: usize) -> Tally {
-    let mut seed = 88172645463325252;
-    let mut t = Tally::new();
-    for _ in 0..n {
-        t = sheet(t, &mut seed, large::KINDS);
-    }
-    t
-}
-
-fn larger(n: usize) -> Tally {
-    let mut seed = 362436069362436069;
-    let mut t = Tally::new();
-    for m in 0..n {
-        t = sheet(t, &mut seed, numbers::remainder(m, large::KINDS));
-    }
-    t
-}
-
-fn print_settled(t: Tally) {
+fn print_sheets(text: &[u8], t: Tally) {
+    print(text, t.run);
+    print(b" (refused ", t.refused);
+    print(b", too large ", t.large);
     print(b", settled ", t.settled);
     print(b", of these moved ", t.moved);
     print(b", no layout ", t.none);
+    io::write_all(STDOUT_FILENO, b")\n");
 }
 
-fn print_compared(t: Tally) {
-    print(b"comparisons: ", t.compared);
+fn print_compared(text: &[u8], t: Tally) {
+    print(text, t.compared);
     print(b", differences: ", t.differ);
     io::write_all(STDOUT_FILENO, b"\n");
 }
 
 fn main() {
-    let e = edges::positions();
+    let e = sheets(plan::POSITION, edges::POSITIONS, 1);
     print(b"positions: ", e.run);
     print(b" run, ", e.differ);
-    let t = sheets(SHEETS);
-    print(b" differ\nsheets: ", t.run);
-    print(b" (refused ", t.refused);
-    print(b", too large ", t.large);
-    print_settled(t);
-    print(b")\nplacements: good ", t.good);
+    let t = sheets(plan::SMALL, SHEETS, 88172645463325252);
+    print_sheets(b" differ\nsheets: ", t);
+    print(b"placements: good ", t.good);
     print(b", not good ", t.bad);
-    io::write_all(STDOUT_FILENO, b"\n");
-    print_compared(t);
-    let l = larger(numbers::place(0, LARGE, large::KINDS));
-    print(b"larger sheets: ", l.run);
-    print(b" (refused ", l.refused);
-    print(b", too large ", l.large);
-    print_settled(l);
-    io::write_all(STDOUT_FILENO, b")\n");
-    print_compared(l);
+    print_compared(b"\ncomparisons: ", t);
+    let l = sheets(plan::LARGER, LARGER, 362436069362436069);
+    print_sheets(b"larger sheets: ", l);
+    print_compared(b"comparisons: ", l);
 }

@@ -21,17 +21,42 @@ pub(crate) fn copy(to: &mut [i64], from: &[i64]) {
     }
 }
 
+// The n words from `first` on, or none where there are not so many.
+pub(crate) fn part(words: &[i64], first: usize, n: usize) -> &[i64] {
+    let end = plus(first, n);
+    if first > end || end > words.len() {
+        return &words[..0];
+    }
+    &words[first..end]
+}
+
+// A copy of some words, which stands at the start of `room`; it ends with the room.
+pub(crate) fn copied<'a>(room: &'a mut [i64], words: &[i64]) -> &'a mut [i64] {
+    let n = words.len();
+    copy(room, words);
+    if n > room.len() {
+        return room;
+    }
+    &mut room[..n]
+}
+
+// Whether the words of `part` stand in `words` from `first` on.
+pub(crate) fn is_part(part: &[i64], words: &[i64], first: usize) -> bool {
+    let n = part.len();
+    let mut w = 0;
+    while w < n && at(part, w) == at(words, plus(first, w)) {
+        w = w + 1;
+    }
+    w == n
+}
+
+// Whether they are n words.
+pub(crate) fn is_run(part: &[i64], words: &[i64], first: usize, n: usize) -> bool {
+    part.len() == n && is_part(part, words, first)
+}
+
 pub(crate) fn are_equal(a: &[i64], b: &[i64]) -> bool {
-    if a.len() != b.len() {
-        return false;
-    }
-    let n = a.len();
-    for i in 0..n {
-        if at(a, i) != at(b, i) {
-            return false;
-        }
-    }
-    true
+    is_run(a, b, 0, b.len())
 }
 
 // ---- numbers
@@ -129,24 +154,6 @@ pub(crate) fn coordinate(p: [i64; 4], d: usize) -> i64 {
     if d < 4 { p[d] } else { 0 }
 }
 
-pub(crate) fn lesser_of(a: [i64; 4], b: [i64; 4]) -> [i64; 4] {
-    [
-        lesser(a[0], b[0]),
-        lesser(a[1], b[1]),
-        lesser(a[2], b[2]),
-        lesser(a[3], b[3]),
-    ]
-}
-
-pub(crate) fn greater_of(a: [i64; 4], b: [i64; 4]) -> [i64; 4] {
-    [
-        greater(a[0], b[0]),
-        greater(a[1], b[1]),
-        greater(a[2], b[2]),
-        greater(a[3], b[3]),
-    ]
-}
-
 // ---- chance
 
 // A xorshift generator.
@@ -167,4 +174,9 @@ pub(crate) fn below(seed: &mut usize, n: usize) -> usize {
 // One of the n words from `first` on.
 pub(crate) fn from(seed: &mut usize, first: i64, n: usize) -> i64 {
     sum(first, word_of(below(seed, n)))
+}
+
+// Once in n times.
+pub(crate) fn one_of(seed: &mut usize, n: usize) -> bool {
+    below(seed, n) == 0
 }

@@ -3,45 +3,52 @@ use super::brute;
 use super::layout;
 use super::numbers;
 
-// ---- refusals 2 to 8
+// ---- refusals 2 to 8: what holds where they are not raised
 
-fn range_breaks(low: i64, high: i64) -> bool {
-    low < -1000000 || 1000000 < high || high < low
+fn range_holds(low: i64, high: i64) -> bool {
+    -1000000 <= low && low <= high && high <= 1000000
 }
 
-fn box_breaks(block: &[i64], b: usize) -> bool {
-    if !numbers::is_within(layout::shape(block, b), 1, 32) {
-        return true;
-    }
+fn extent_holds(block: &[i64], b: usize, d: usize) -> bool {
+    numbers::is_within(layout::offset(block, b, d), -10000, 10000)
+        && numbers::is_within(layout::size(block, b, d), 1, 10000)
+}
+
+fn box_holds(block: &[i64], b: usize) -> bool {
     let k = layout::dims(block);
-    for d in 0..k {
-        if !numbers::is_within(layout::offset(block, b, d), -10000, 10000) {
-            return true;
-        }
-        if !numbers::is_within(layout::size(block, b, d), 1, 10000) {
-            return true;
-        }
+    let mut d = 0;
+    while d < k && extent_holds(block, b, d) {
+        d = d + 1;
     }
-    false
+    d == k && numbers::is_within(layout::shape(block, b), 1, 32)
 }
 
-fn boxes_break(block: &[i64]) -> bool {
+fn boxes_hold(block: &[i64]) -> bool {
     let n = layout::boxes(block);
-    for b in 0..n {
-        if box_breaks(block, b) {
-            return true;
-        }
+    let mut b = 0;
+    while b < n && box_holds(block, b) {
+        b = b + 1;
     }
-    false
+    b == n
 }
 
-fn room_breaks(block: &[i64], r: usize, d: usize) -> bool {
+// A room's ends, which are 0 where there is no room.
+fn room_holds(block: &[i64], r: usize, d: usize) -> bool {
     let low = layout::room_low(block, r, d);
     let high = layout::room_high(block, r, d);
     if layout::kind(block, r) == 2 && layout::names_dim(block, r, d) {
-        return range_breaks(low, high);
+        return range_holds(low, high);
     }
-    low != 0 || high != 0
+    low == 0 && high == 0
+}
+
+fn rooms_hold(block: &[i64], r: usize) -> bool {
+    let k = layout::dims(block);
+    let mut d = 0;
+    while d < k && room_holds(block, r, d) {
+        d = d + 1;
+    }
+    d == k
 }
 
 // From 1 to 2^n − 1.
@@ -49,76 +56,64 @@ fn is_set(set: i64, n: usize) -> bool {
     numbers::is_within(set, 1, numbers::difference(numbers::set_of(n), 1))
 }
 
-fn rule_breaks(block: &[i64], n: usize, r: usize) -> bool {
-    let k = layout::dims(block);
-    if !numbers::is_within(layout::kind(block, r), 1, 2) {
-        return true;
-    }
-    if !is_set(layout::dim_set(block, r), k) || !is_set(layout::row_set(block, r), n) {
-        return true;
-    }
-    for d in 0..k {
-        if room_breaks(block, r, d) {
-            return true;
-        }
-    }
-    false
+fn rule_holds(block: &[i64], n: usize, r: usize) -> bool {
+    numbers::is_within(layout::kind(block, r), 1, 2)
+        && is_set(layout::dim_set(block, r), layout::dims(block))
+        && is_set(layout::row_set(block, r), n)
+        && rooms_hold(block, r)
 }
 
-fn rules_break(block: &[i64], n: usize) -> bool {
+fn rules_hold(block: &[i64], n: usize) -> bool {
     let m = layout::rules(block);
-    for r in 0..m {
-        if rule_breaks(block, n, r) {
-            return true;
-        }
+    let mut r = 0;
+    while r < m && rule_holds(block, n, r) {
+        r = r + 1;
     }
-    false
+    r == m
 }
 
 fn has_box(block: &[i64], s: usize) -> bool {
     let n = layout::boxes(block);
-    for b in 0..n {
-        if layout::is_of(block, b, s) {
-            return true;
-        }
+    let mut b = 0;
+    while b < n && layout::is_other(block, b, s) {
+        b = b + 1;
     }
-    false
+    b < n
 }
 
-fn shapes_break(block: &[i64], set: i64) -> bool {
-    if !is_set(set, 32) {
-        return true;
+// A set of shapes of which each has a box.
+fn shapes_hold(block: &[i64], set: i64) -> bool {
+    let mut s = 0;
+    while s < 32 && (!numbers::has(set, s) || has_box(block, s)) {
+        s = s + 1;
     }
-    for s in 0..32 {
-        if numbers::has(set, s) && !has_box(block, s) {
-            return true;
-        }
-    }
-    false
+    s == 32 && is_set(set, 32)
 }
 
-fn ranges_break(block: &[i64], table: &[i64], i: usize) -> bool {
+fn ranges_hold(block: &[i64], table: &[i64], i: usize) -> bool {
     let k = layout::dims(block);
-    for d in 0..k {
-        if range_breaks(
+    let mut d = 0;
+    while d < k
+        && range_holds(
             layout::low(block, table, i, d),
             layout::high(block, table, i, d),
-        ) {
-            return true;
-        }
+        )
+    {
+        d = d + 1;
     }
-    false
+    d == k
 }
 
-fn rows_break(block: &[i64], table: &[i64], n: usize) -> bool {
-    for i in 0..n {
-        if shapes_break(block, layout::shape_set(block, table, i))
-            || ranges_break(block, table, i)
-        {
-            return true;
-        }
+fn row_holds(block: &[i64], table: &[i64], i: usize) -> bool {
+    shapes_hold(block, layout::shape_set(block, table, i)) && ranges_hold(block, table, i)
+}
+
+fn rows_hold(block: &[i64], table: &[i64], n: usize) -> bool {
+    let mut i = 0;
+    while i < n && row_holds(block, table, i) {
+        i = i + 1;
     }
-    false
+    i == n
 }
 
 fn head_refusal(block: &[i64]) -> i64 {
@@ -151,13 +146,13 @@ pub(crate) fn refusal(block: &[i64], table: &[i64]) -> i64 {
     if n == 0 {
         return 5;
     }
-    if boxes_break(block) {
+    if !boxes_hold(block) {
         return 6;
     }
-    if rules_break(block, n) {
+    if !rules_hold(block, n) {
         return 7;
     }
-    if rows_break(block, table, n) {
+    if !rows_hold(block, table, n) {
         return 8;
     }
     0
@@ -203,17 +198,19 @@ pub(crate) fn dim_refusal(block: &[i64], table: &[i64], row: i64, shape: i64, di
     0
 }
 
-// A row is fixed when it has one shape and one point.
+// It has one shape and one point.
+fn row_is_fixed(block: &[i64], table: &[i64], i: usize) -> bool {
+    brute::has_one_shape(layout::shape_set(block, table, i))
+        && brute::points(block, table, i, 0) == 1
+}
+
 fn is_fixed(block: &[i64], table: &[i64]) -> bool {
     let n = layout::rows(block, table);
-    for i in 0..n {
-        if brute::shape_count(layout::shape_set(block, table, i)) != 1
-            || brute::points(block, table, i, 0) != 1
-        {
-            return false;
-        }
+    let mut i = 0;
+    while i < n && row_is_fixed(block, table, i) {
+        i = i + 1;
     }
-    true
+    i == n
 }
 
 pub(crate) fn placement_refusal(block: &[i64], table: &[i64]) -> i64 {

@@ -54,11 +54,13 @@ impl Tally {
         self
     }
 
-    // What settling found; `counted` where it was a sheet and not a placement.
+    // What settling found; `counted` where it was a sheet and not a placement. Only a settled table was moved.
     pub(crate) fn with_settling(mut self, counted: bool, finding: i64, moved: bool) -> Self {
-        self.settled = and(self.settled, counted && finding == 0);
-        self.moved = and(self.moved, counted && finding == 0 && moved);
-        self.none = and(self.none, counted && finding == -1);
+        if counted {
+            self.settled = and(self.settled, finding == 0);
+            self.moved = and(self.moved, moved);
+            self.none = and(self.none, finding == -1);
+        }
         self
     }
 

@@ -1,14 +1,14 @@
--- `trial::sheets` is safe and ends: counter runs up to n. Assumes nothing.
+-- `trial::sheets` is safe and ends: m runs up to n. Assumes nothing.
 use Prim.Native.Nat.{_≤_, _-_}
 use borrow.Author.Needs.{needs}
 use Rattle.trial.proofs.sheets.Statement.{statement}
 use Rattle.trial.proofs.sheets.Tie as tie
 
 abbrev Inv-loop : tie.InvT-loop
-Inv-loop n seed₀ t₀ counter₀ seed t counter = counter ≤ n
+Inv-loop kind n first seed₀ t₀ m₀ seed t m = m ≤ n
 
 abbrev μ-loop : tie.MeasureT-loop
-μ-loop n seed₀ t₀ counter₀ seed t counter = n - counter
+μ-loop kind n first seed₀ t₀ m₀ seed t m = n - m
 
 new-requires : tie.Need-new-requires Inv-loop μ-loop
 new-requires c κs = search needs
@@ -19,8 +19,8 @@ loop-holds c = search needs
 sheet-requires : tie.Need-sheet-requires Inv-loop μ-loop
 sheet-requires c κs = search needs
 
-add-counter : tie.Need-add-counter Inv-loop μ-loop
-add-counter c = search needs
+add-m : tie.Need-add-m Inv-loop μ-loop
+add-m c = search needs
 
 loop-less : tie.Need-loop-less Inv-loop μ-loop
 loop-less c = search needs
@@ -40,7 +40,7 @@ sheets-spec =
     new-requires
     loop-holds
     sheet-requires
-    add-counter
+    add-m
     loop-less
     loop-again
     returns)

@@ -25,9 +25,6 @@ coordinate-requires c κs = search needs
 inside-in-requires : tie.Need-inside-in-requires Inv-loop μ-loop
 inside-in-requires c κs = search needs
 
-returns : tie.Need-returns Inv-loop μ-loop
-returns c = search needs
-
 add-d : tie.Need-add-d Inv-loop μ-loop
 add-d c = search needs
 
@@ -37,8 +34,8 @@ loop-less c = search needs
 loop-again : tie.Need-loop-again Inv-loop μ-loop
 loop-again c = search needs
 
-returns-2 : tie.Need-returns-2 Inv-loop μ-loop
-returns-2 c = search needs
+returns : tie.Need-returns Inv-loop μ-loop
+returns c = search needs
 
 pub box-inside-spec : {M : Type 1} → statement M
 box-inside-spec =
@@ -51,8 +48,7 @@ box-inside-spec =
     names-dim-requires
     coordinate-requires
     inside-in-requires
-    returns
     add-d
     loop-less
     loop-again
-    returns-2)
+    returns)

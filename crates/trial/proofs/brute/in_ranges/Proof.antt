@@ -28,9 +28,6 @@ high-requires c κs = search needs
 is-within-requires : tie.Need-is-within-requires Inv-loop μ-loop
 is-within-requires c κs = search needs
 
-returns : tie.Need-returns Inv-loop μ-loop
-returns c = search needs
-
 add-d : tie.Need-add-d Inv-loop μ-loop
 add-d c = search needs
 
@@ -40,8 +37,8 @@ loop-less c = search needs
 loop-again : tie.Need-loop-again Inv-loop μ-loop
 loop-again c = search needs
 
-returns-2 : tie.Need-returns-2 Inv-loop μ-loop
-returns-2 c = search needs
+returns : tie.Need-returns Inv-loop μ-loop
+returns c = search needs
 
 pub in-ranges-spec : {M : Type 1} → statement M
 in-ranges-spec =
@@ -55,8 +52,7 @@ in-ranges-spec =
     low-requires
     high-requires
     is-within-requires
-    returns
     add-d
     loop-less
     loop-again
-    returns-2)
+    returns)

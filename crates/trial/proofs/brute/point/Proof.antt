@@ -5,10 +5,13 @@ use Rattle.trial.proofs.brute.point.Statement.{statement}
 use Rattle.trial.proofs.brute.point.Tie as tie
 
 abbrev Inv-loop : tie.InvT-loop
-Inv-loop block table i m more p₀ rest₀ d₀ p rest d = d ≤ 4
+Inv-loop block table i m more k p₀ rest₀ d₀ p rest d = d ≤ 4
 
 abbrev μ-loop : tie.MeasureT-loop
-μ-loop block table i m more p₀ rest₀ d₀ p rest d = 4 - d
+μ-loop block table i m more k p₀ rest₀ d₀ p rest d = 4 - d
+
+dims-requires : tie.Need-dims-requires Inv-loop μ-loop
+dims-requires c κs = search needs
 
 loop-holds : tie.Need-loop-holds Inv-loop μ-loop
 loop-holds c = search needs
@@ -22,8 +25,11 @@ remainder-requires c κs = search needs
 word-of-requires : tie.Need-word-of-requires Inv-loop μ-loop
 word-of-requires c κs = search needs
 
-first-coordinate-requires : tie.Need-first-coordinate-requires Inv-loop μ-loop
-first-coordinate-requires c κs = search needs
+low-requires : tie.Need-low-requires Inv-loop μ-loop
+low-requires c κs = search needs
+
+difference-requires : tie.Need-difference-requires Inv-loop μ-loop
+difference-requires c κs = search needs
 
 sum-requires : tie.Need-sum-requires Inv-loop μ-loop
 sum-requires c κs = search needs
@@ -55,11 +61,13 @@ point-spec =
     (tie.spec
     Inv-loop
     μ-loop
+    dims-requires
     loop-holds
     width-requires
     remainder-requires
     word-of-requires
-    first-coordinate-requires
+    low-requires
+    difference-requires
     sum-requires
     mul-p
     array-set-from-p

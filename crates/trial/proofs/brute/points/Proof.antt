@@ -1,14 +1,17 @@
--- `trial::brute::points` is safe and ends: d runs up to 4. Assumes nothing.
+-- `trial::brute::points` is safe and ends: d runs up to k. Assumes nothing.
 use Prim.Native.Nat.{_≤_, _-_}
 use borrow.Author.Needs.{needs}
 use Rattle.trial.proofs.brute.points.Statement.{statement}
 use Rattle.trial.proofs.brute.points.Tie as tie
 
 abbrev Inv-loop : tie.InvT-loop
-Inv-loop block table i more n₀ d₀ n d = d ≤ 4
+Inv-loop block table i more k n₀ d₀ n d = d ≤ k
 
 abbrev μ-loop : tie.MeasureT-loop
-μ-loop block table i more n₀ d₀ n d = 4 - d
+μ-loop block table i more k n₀ d₀ n d = k - d
+
+dims-requires : tie.Need-dims-requires Inv-loop μ-loop
+dims-requires c κs = search needs
 
 loop-holds : tie.Need-loop-holds Inv-loop μ-loop
 loop-holds c = search needs
@@ -43,6 +46,7 @@ points-spec =
     (tie.spec
     Inv-loop
     μ-loop
+    dims-requires
     loop-holds
     width-requires
     place-requires

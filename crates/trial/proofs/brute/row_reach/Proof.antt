@@ -10,14 +10,14 @@ Inv-loop block table i r₀ s₀ r s = s ≤ 32
 abbrev μ-loop : tie.MeasureT-loop
 μ-loop block table i r₀ s₀ r s = 32 - s
 
-nowhere-requires : tie.Need-nowhere-requires Inv-loop μ-loop
-nowhere-requires c κs = search needs
-
 loop-holds : tie.Need-loop-holds Inv-loop μ-loop
 loop-holds c = search needs
 
-with-shape-requires : tie.Need-with-shape-requires Inv-loop μ-loop
-with-shape-requires c κs = search needs
+has-shape-requires : tie.Need-has-shape-requires Inv-loop μ-loop
+has-shape-requires c κs = search needs
+
+shape-reach-requires : tie.Need-shape-reach-requires Inv-loop μ-loop
+shape-reach-requires c κs = search needs
 
 add-s : tie.Need-add-s Inv-loop μ-loop
 add-s c = search needs
@@ -37,9 +37,9 @@ row-reach-spec =
     (tie.spec
     Inv-loop
     μ-loop
-    nowhere-requires
     loop-holds
-    with-shape-requires
+    has-shape-requires
+    shape-reach-requires
     add-s
     loop-less
     loop-again

@@ -16,14 +16,11 @@ boxes-requires c κs = search needs
 loop-holds : tie.Need-loop-holds Inv-loop μ-loop
 loop-holds c = search needs
 
-is-of-requires : tie.Need-is-of-requires Inv-loop μ-loop
-is-of-requires c κs = search needs
+is-other-requires : tie.Need-is-other-requires Inv-loop μ-loop
+is-other-requires c κs = search needs
 
 box-inside-requires : tie.Need-box-inside-requires Inv-loop μ-loop
 box-inside-requires c κs = search needs
-
-returns : tie.Need-returns Inv-loop μ-loop
-returns c = search needs
 
 add-b : tie.Need-add-b Inv-loop μ-loop
 add-b c = search needs
@@ -34,8 +31,8 @@ loop-less c = search needs
 loop-again : tie.Need-loop-again Inv-loop μ-loop
 loop-again c = search needs
 
-returns-2 : tie.Need-returns-2 Inv-loop μ-loop
-returns-2 c = search needs
+returns : tie.Need-returns Inv-loop μ-loop
+returns c = search needs
 
 pub shape-inside-spec : {M : Type 1} → statement M
 shape-inside-spec =
@@ -45,10 +42,9 @@ shape-inside-spec =
     μ-loop
     boxes-requires
     loop-holds
-    is-of-requires
+    is-other-requires
     box-inside-requires
-    returns
     add-b
     loop-less
     loop-again
-    returns-2)
+    returns)

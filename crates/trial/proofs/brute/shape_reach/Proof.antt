@@ -5,19 +5,22 @@ use Rattle.trial.proofs.brute.shape_reach.Statement.{statement}
 use Rattle.trial.proofs.brute.shape_reach.Tie as tie
 
 abbrev Inv-loop : tie.InvT-loop
-Inv-loop block table i s r₀ n m₀ r m = m ≤ n
+Inv-loop block table i s n r₀ m₀ r m = m ≤ n
 
 abbrev μ-loop : tie.MeasureT-loop
-μ-loop block table i s r₀ n m₀ r m = n - m
-
-nowhere-requires : tie.Need-nowhere-requires Inv-loop μ-loop
-nowhere-requires c κs = search needs
+μ-loop block table i s n r₀ m₀ r m = n - m
 
 points-requires : tie.Need-points-requires Inv-loop μ-loop
 points-requires c κs = search needs
 
 loop-holds : tie.Need-loop-holds Inv-loop μ-loop
 loop-holds c = search needs
+
+point-requires : tie.Need-point-requires Inv-loop μ-loop
+point-requires c κs = search needs
+
+allowed-requires : tie.Need-allowed-requires Inv-loop μ-loop
+allowed-requires c κs = search needs
 
 with-point-requires : tie.Need-with-point-requires Inv-loop μ-loop
 with-point-requires c κs = search needs
@@ -40,9 +43,10 @@ shape-reach-spec =
     (tie.spec
     Inv-loop
     μ-loop
-    nowhere-requires
     points-requires
     loop-holds
+    point-requires
+    allowed-requires
     with-point-requires
     add-m
     loop-less

@@ -22,14 +22,11 @@ boxes-requires c κs = search needs
 loop-holds : tie.Need-loop-holds Inv-loop μ-loop
 loop-holds c = search needs
 
-is-of-requires : tie.Need-is-of-requires Inv-loop μ-loop
-is-of-requires c κs = search needs
+is-other-requires : tie.Need-is-other-requires Inv-loop μ-loop
+is-other-requires c κs = search needs
 
 boxes-apart-requires : tie.Need-boxes-apart-requires Inv-loop μ-loop
 boxes-apart-requires c κs = search needs
-
-returns : tie.Need-returns Inv-loop μ-loop
-returns c = search needs
 
 add-c : tie.Need-add-c Inv-loop μ-loop
 add-c c = search needs
@@ -40,8 +37,8 @@ loop-less c = search needs
 loop-again : tie.Need-loop-again Inv-loop μ-loop
 loop-again c = search needs
 
-returns-2 : tie.Need-returns-2 Inv-loop μ-loop
-returns-2 c = search needs
+returns : tie.Need-returns Inv-loop μ-loop
+returns c = search needs
 
 pub box-apart-spec : {M : Type 1} → statement M
 box-apart-spec =
@@ -53,10 +50,9 @@ box-apart-spec =
     last-shape-requires
     boxes-requires
     loop-holds
-    is-of-requires
+    is-other-requires
     boxes-apart-requires
-    returns
     add-c
     loop-less
     loop-again
-    returns-2)
+    returns)

@@ -16,17 +16,8 @@ dims-requires c κs = search needs
 loop-holds : tie.Need-loop-holds Inv-loop μ-loop
 loop-holds c = search needs
 
-names-dim-requires : tie.Need-names-dim-requires Inv-loop μ-loop
-names-dim-requires c κs = search needs
-
-is-past-requires : tie.Need-is-past-requires Inv-loop μ-loop
-is-past-requires c κs = search needs
-
-is-past-requires-2 : tie.Need-is-past-requires-2 Inv-loop μ-loop
-is-past-requires-2 c κs = search needs
-
-returns : tie.Need-returns Inv-loop μ-loop
-returns c = search needs
+parts-requires : tie.Need-parts-requires Inv-loop μ-loop
+parts-requires c κs = search needs
 
 add-d : tie.Need-add-d Inv-loop μ-loop
 add-d c = search needs
@@ -37,8 +28,8 @@ loop-less c = search needs
 loop-again : tie.Need-loop-again Inv-loop μ-loop
 loop-again c = search needs
 
-returns-2 : tie.Need-returns-2 Inv-loop μ-loop
-returns-2 c = search needs
+returns : tie.Need-returns Inv-loop μ-loop
+returns c = search needs
 
 pub boxes-apart-spec : {M : Type 1} → statement M
 boxes-apart-spec =
@@ -48,11 +39,8 @@ boxes-apart-spec =
     μ-loop
     dims-requires
     loop-holds
-    names-dim-requires
-    is-past-requires
-    is-past-requires-2
-    returns
+    parts-requires
     add-d
     loop-less
     loop-again
-    returns-2)
+    returns)

@@ -19,9 +19,6 @@ loop-holds c = search needs
 rule-holds-requires : tie.Need-rule-holds-requires Inv-loop μ-loop
 rule-holds-requires c κs = search needs
 
-returns : tie.Need-returns Inv-loop μ-loop
-returns c = search needs
-
 add-r : tie.Need-add-r Inv-loop μ-loop
 add-r c = search needs
 
@@ -31,8 +28,8 @@ loop-less c = search needs
 loop-again : tie.Need-loop-again Inv-loop μ-loop
 loop-again c = search needs
 
-returns-2 : tie.Need-returns-2 Inv-loop μ-loop
-returns-2 c = search needs
+returns : tie.Need-returns Inv-loop μ-loop
+returns c = search needs
 
 pub is-good-spec : {M : Type 1} → statement M
 is-good-spec =
@@ -43,8 +40,7 @@ is-good-spec =
     rules-requires
     loop-holds
     rule-holds-requires
-    returns
     add-r
     loop-less
     loop-again
-    returns-2)
+    returns)

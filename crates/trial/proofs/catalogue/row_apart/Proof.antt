@@ -19,9 +19,6 @@ names-row-requires c κs = search needs
 rows-apart-requires : tie.Need-rows-apart-requires Inv-loop μ-loop
 rows-apart-requires c κs = search needs
 
-returns : tie.Need-returns Inv-loop μ-loop
-returns c = search needs
-
 add-j : tie.Need-add-j Inv-loop μ-loop
 add-j c = search needs
 
@@ -31,8 +28,8 @@ loop-less c = search needs
 loop-again : tie.Need-loop-again Inv-loop μ-loop
 loop-again c = search needs
 
-returns-2 : tie.Need-returns-2 Inv-loop μ-loop
-returns-2 c = search needs
+returns : tie.Need-returns Inv-loop μ-loop
+returns c = search needs
 
 pub row-apart-spec : {M : Type 1} → statement M
 row-apart-spec =
@@ -43,8 +40,7 @@ row-apart-spec =
     loop-holds
     names-row-requires
     rows-apart-requires
-    returns
     add-j
     loop-less
     loop-again
-    returns-2)
+    returns)

@@ -19,9 +19,6 @@ loop-holds c = search needs
 row-meets-requires : tie.Need-row-meets-requires Inv-loop μ-loop
 row-meets-requires c κs = search needs
 
-returns : tie.Need-returns Inv-loop μ-loop
-returns c = search needs
-
 add-i : tie.Need-add-i Inv-loop μ-loop
 add-i c = search needs
 
@@ -31,8 +28,8 @@ loop-less c = search needs
 loop-again : tie.Need-loop-again Inv-loop μ-loop
 loop-again c = search needs
 
-returns-2 : tie.Need-returns-2 Inv-loop μ-loop
-returns-2 c = search needs
+returns : tie.Need-returns Inv-loop μ-loop
+returns c = search needs
 
 pub rule-holds-spec : {M : Type 1} → statement M
 rule-holds-spec =
@@ -43,8 +40,7 @@ rule-holds-spec =
     rows-requires
     loop-holds
     row-meets-requires
-    returns
     add-i
     loop-less
     loop-again
-    returns-2)
+    returns)

@@ -19,6 +19,27 @@ loop-holds c = search needs
 point-requires : tie.Need-point-requires Inv-loop μ-loop
 point-requires c κs = search needs
 
+allowed-requires : tie.Need-allowed-requires Inv-loop μ-loop
+allowed-requires c κs = search needs
+
+found-requires : tie.Need-found-requires Inv-loop μ-loop
+found-requires c κs = search needs
+
+number-requires : tie.Need-number-requires Inv-loop μ-loop
+number-requires c κs = search needs
+
+number-requires-2 : tie.Need-number-requires-2 Inv-loop μ-loop
+number-requires-2 c κs = search needs
+
+point-allowed-requires : tie.Need-point-allowed-requires Inv-loop μ-loop
+point-allowed-requires c κs = search needs
+
+point-is-requires : tie.Need-point-is-requires Inv-loop μ-loop
+point-is-requires c κs = search needs
+
+compared-requires : tie.Need-compared-requires Inv-loop μ-loop
+compared-requires c κs = search needs
+
 add-m : tie.Need-add-m Inv-loop μ-loop
 add-m c = search needs
 
@@ -40,6 +61,13 @@ points-spec =
     points-requires
     loop-holds
     point-requires
+    allowed-requires
+    found-requires
+    number-requires
+    number-requires-2
+    point-allowed-requires
+    point-is-requires
+    compared-requires
     add-m
     loop-less
     loop-again

@@ -13,17 +13,23 @@ abbrev μ-loop : tie.MeasureT-loop
 shape-reach-requires : tie.Need-shape-reach-requires Inv-loop μ-loop
 shape-reach-requires c κs = search needs
 
+word-requires : tie.Need-word-requires Inv-loop μ-loop
+word-requires c κs = search needs
+
+found-requires : tie.Need-found-requires Inv-loop μ-loop
+found-requires c κs = search needs
+
 dims-requires : tie.Need-dims-requires Inv-loop μ-loop
 dims-requires c κs = search needs
 
 loop-holds : tie.Need-loop-holds Inv-loop μ-loop
 loop-holds c = search needs
 
-row-number-requires : tie.Need-row-number-requires Inv-loop μ-loop
-row-number-requires c κs = search needs
+number-requires : tie.Need-number-requires Inv-loop μ-loop
+number-requires c κs = search needs
 
-shape-number-requires : tie.Need-shape-number-requires Inv-loop μ-loop
-shape-number-requires c κs = search needs
+number-requires-2 : tie.Need-number-requires-2 Inv-loop μ-loop
+number-requires-2 c κs = search needs
 
 word-of-requires : tie.Need-word-of-requires Inv-loop μ-loop
 word-of-requires c κs = search needs
@@ -50,10 +56,12 @@ shape-ends-spec =
     Inv-loop
     μ-loop
     shape-reach-requires
+    word-requires
+    found-requires
     dims-requires
     loop-holds
-    row-number-requires
-    shape-number-requires
+    number-requires
+    number-requires-2
     word-of-requires
     ends-requires
     add-d

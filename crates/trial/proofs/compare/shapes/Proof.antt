@@ -13,8 +13,14 @@ abbrev μ-loop : tie.MeasureT-loop
 loop-holds : tie.Need-loop-holds Inv-loop μ-loop
 loop-holds c = search needs
 
-shape-requires : tie.Need-shape-requires Inv-loop μ-loop
-shape-requires c κs = search needs
+has-shape-requires : tie.Need-has-shape-requires Inv-loop μ-loop
+has-shape-requires c κs = search needs
+
+shape-ends-requires : tie.Need-shape-ends-requires Inv-loop μ-loop
+shape-ends-requires c κs = search needs
+
+points-requires : tie.Need-points-requires Inv-loop μ-loop
+points-requires c κs = search needs
 
 add-s : tie.Need-add-s Inv-loop μ-loop
 add-s c = search needs
@@ -31,4 +37,14 @@ returns c = search needs
 pub shapes-spec : {M : Type 1} → statement M
 shapes-spec =
     tie.close
-    (tie.spec Inv-loop μ-loop loop-holds shape-requires add-s loop-less loop-again returns)
+    (tie.spec
+    Inv-loop
+    μ-loop
+    loop-holds
+    has-shape-requires
+    shape-ends-requires
+    points-requires
+    add-s
+    loop-less
+    loop-again
+    returns)

@@ -5,22 +5,19 @@ use Rattle.trial.proofs.layout.rows.Statement.{statement}
 use Rattle.trial.proofs.layout.rows.Tie as tie
 
 abbrev Inv-loop : tie.InvT-loop
-Inv-loop block table n₀ n = n ≤ 33
+Inv-loop block table k n₀ n = n ≤ 33
 
 abbrev μ-loop : tie.MeasureT-loop
-μ-loop block table n₀ n = 33 - n
-
-loop-holds : tie.Need-loop-holds Inv-loop μ-loop
-loop-holds c = search needs
+μ-loop block table k n₀ n = 33 - n
 
 dims-requires : tie.Need-dims-requires Inv-loop μ-loop
 dims-requires c κs = search needs
 
+loop-holds : tie.Need-loop-holds Inv-loop μ-loop
+loop-holds c = search needs
+
 row-place-requires : tie.Need-row-place-requires Inv-loop μ-loop
 row-place-requires c κs = search needs
-
-returns : tie.Need-returns Inv-loop μ-loop
-returns c = search needs
 
 add-n : tie.Need-add-n Inv-loop μ-loop
 add-n c = search needs
@@ -31,6 +28,9 @@ loop-less c = search needs
 loop-again : tie.Need-loop-again Inv-loop μ-loop
 loop-again c = search needs
 
+returns : tie.Need-returns Inv-loop μ-loop
+returns c = search needs
+
 returns-2 : tie.Need-returns-2 Inv-loop μ-loop
 returns-2 c = search needs
 
@@ -40,11 +40,11 @@ rows-spec =
     (tie.spec
     Inv-loop
     μ-loop
-    loop-holds
     dims-requires
+    loop-holds
     row-place-requires
-    returns
     add-n
     loop-less
     loop-again
+    returns
     returns-2)

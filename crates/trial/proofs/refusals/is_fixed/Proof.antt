@@ -16,17 +16,8 @@ rows-requires c κs = search needs
 loop-holds : tie.Need-loop-holds Inv-loop μ-loop
 loop-holds c = search needs
 
-shape-set-requires : tie.Need-shape-set-requires Inv-loop μ-loop
-shape-set-requires c κs = search needs
-
-shape-count-requires : tie.Need-shape-count-requires Inv-loop μ-loop
-shape-count-requires c κs = search needs
-
-points-requires : tie.Need-points-requires Inv-loop μ-loop
-points-requires c κs = search needs
-
-returns : tie.Need-returns Inv-loop μ-loop
-returns c = search needs
+row-is-fixed-requires : tie.Need-row-is-fixed-requires Inv-loop μ-loop
+row-is-fixed-requires c κs = search needs
 
 add-i : tie.Need-add-i Inv-loop μ-loop
 add-i c = search needs
@@ -37,8 +28,8 @@ loop-less c = search needs
 loop-again : tie.Need-loop-again Inv-loop μ-loop
 loop-again c = search needs
 
-returns-2 : tie.Need-returns-2 Inv-loop μ-loop
-returns-2 c = search needs
+returns : tie.Need-returns Inv-loop μ-loop
+returns c = search needs
 
 pub is-fixed-spec : {M : Type 1} → statement M
 is-fixed-spec =
@@ -48,11 +39,8 @@ is-fixed-spec =
     μ-loop
     rows-requires
     loop-holds
-    shape-set-requires
-    shape-count-requires
-    points-requires
-    returns
+    row-is-fixed-requires
     add-i
     loop-less
     loop-again
-    returns-2)
+    returns)

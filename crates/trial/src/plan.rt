@@ -1,0 +1,149 @@
+// What the sheets are made of: small ones by chance, larger ones by chance, and the positions.
+use super::edges;
+use super::numbers;
+use super::numbers::below;
+use super::numbers::plus;
+use super::numbers::sum;
+
+// The kinds of sheets.
+pub const SMALL: usize = 0;
+
+pub const LARGER: usize = 1;
+
+pub const POSITION: usize = 2;
+
+// How k pairs of words of a record are drawn. Pair d starts at word `at` + `step` * d, and its second word stands `gap` words after the
+// first. The first is one of `n` words from `first` on, the second one of `more` words from `then` on; of a range it is so much past the
+// first. No word is past `limit`.
+pub struct Pairs {
+    pub at: usize,
+    pub step: usize,
+    pub gap: usize,
+    pub is_range: bool,
+    pub first: i64,
+    pub n: usize,
+    pub then: i64,
+    pub more: usize,
+    pub limit: i64,
+}
+
+// With no shapes every box and every row is of shape 1, and no shape is drawn.
+pub struct Plan {
+    pub kind: usize,
+    pub k: usize,
+    pub boxes: usize,
+    pub rules: usize,
+    pub rows: usize,
+    pub shapes: usize,
+    pub extents: Pairs, // the offsets and sizes of a box
+    pub ranges: Pairs, // of a row
+    pub rooms: Pairs, // of a rule
+}
+
+// Offsets, each one of n words, and sizes.
+pub(crate) fn extents(k: usize, first: i64, n: usize, then: i64, more: usize) -> Pairs {
+    Pairs {
+        at: 1,
+        step: 1,
+        gap: k,
+        is_range: false,
+        first,
+        n,
+        then,
+        more,
+        limit: 1000000,
+    }
+}
+
+// Lows, each one of n words, and highs; `at` is the first word of the first range in its record.
+pub(crate) fn ranges(at: usize, first: i64, n: usize, then: i64, more: usize) -> Pairs {
+    Pairs {
+        at,
+        step: 2,
+        gap: 1,
+        is_range: true,
+        first,
+        n,
+        then,
+        more,
+        limit: 2000000,
+    }
+}
+
+// ---- small sheets
+
+// Where the ranges start: around 0, or at an end of what a range may hold.
+fn some_base(seed: &mut usize) -> i64 {
+    match below(seed, 8) {
+        0 => -1000000,
+        1 => 999989,
+        _ => -3,
+    }
+}
+
+// k from 1 to 4, one to four rows, one to three shapes, up to nine boxes, up to three rules of both kinds, with rooms around the ranges.
+fn small(seed: &mut usize) -> Plan {
+    let k = plus(1, below(seed, 4));
+    let rows = numbers::at_most(plus(1, below(seed, 5)), 4);
+    let shapes = plus(1, below(seed, 3));
+    let boxes = plus(shapes, below(seed, numbers::place(1, 2, shapes)));
+    let rules = numbers::at_most(below(seed, 5), 3);
+    let base = some_base(seed);
+    let mut rooms = ranges(3, sum(base, -4), 5, 5, 9);
+    rooms.limit = 1000000;
+    Plan {
+        kind: SMALL,
+        k,
+        boxes,
+        rules,
+        rows,
+        shapes,
+        extents: extents(k, -2, 5, 1, 3),
+        ranges: ranges(1, base, 3, 0, 1),
+        rooms,
+    }
+}
+
+// ---- larger sheets
+
+// Their rows, boxes and rules.
+fn counts(m: usize) -> [usize; 3] {
+    match numbers::remainder(m, 6) {
+        0 => [8, 4, 1],
+        1 => [8, 32, 1],
+        2 => [32, 1, 20],
+        3 => [32, 3, 20],
+        4 => [24, 16, 1],
+        _ => [24, 32, 1],
+    }
+}
+
+// In three or four dimensions, small boxes of one outline, far enough apart that those of two rows often pass each other, and ranges of
+// one or two numbers: for what small sheets cannot fill, the kernel's suspects, with room to spare and full, and both lengths of them.
+fn larger(seed: &mut usize, m: usize) -> Plan {
+    let k = plus(3, below(seed, 2));
+    let n = counts(m);
+    let r = ranges(1, -3, 7, 0, 2);
+    Plan {
+        kind: LARGER,
+        k,
+        boxes: n[1],
+        rules: n[2],
+        rows: n[0],
+        shapes: 0,
+        extents: extents(k, -8, 17, 1, 2),
+        ranges: r,
+        rooms: r,
+    }
+}
+
+// ---- all
+
+// The plan of sheet m of a kind.
+pub(crate) fn of(seed: &mut usize, kind: usize, m: usize) -> Plan {
+    match kind {
+        SMALL => small(seed),
+        LARGER => larger(seed, m),
+        _ => edges::plan(m),
+    }
+}

@@ -10,7 +10,7 @@ use super::numbers::place;
 use super::numbers::plus;
 use super::numbers::sum;
 
-// No place, no layout, not allowed, not good.
+// The finding where there is no place, no layout, or something is not allowed or not good.
 pub const NONE: i64 = -1;
 
 // ---- what is allowed
@@ -30,14 +30,14 @@ fn in_ranges(block: &[i64], table: &[i64], i: usize, p: [i64; 4]) -> bool {
     d == k
 }
 
-// Box b, of a row at coordinate x of dimension d, lies in the room.
+// Whether box b, of a row at coordinate x of dimension d, lies in the room.
 fn inside_in(block: &[i64], r: usize, b: usize, d: usize, x: i64) -> bool {
     let start = sum(x, layout::offset(block, b, d));
     let end = sum(start, layout::size(block, b, d));
     layout::room_low(block, r, d) <= start && end <= layout::room_high(block, r, d)
 }
 
-// In every named dimension.
+// Whether box b lies in the room in every dimension that the rule names.
 fn box_inside(block: &[i64], r: usize, b: usize, p: [i64; 4]) -> bool {
     let k = layout::dims(block);
     let mut d = 0;
@@ -58,7 +58,7 @@ pub(crate) fn shape_inside(block: &[i64], r: usize, s: usize, p: [i64; 4]) -> bo
     b == n
 }
 
-// Box b at coordinate x against box c of row j: from max + t' − t − l + 1 to min + t' + l' − t − 1.
+// Whether box c of row j forbids box b the coordinate x: from max + t' − t − l + 1 to min + t' + l' − t − 1 it does.
 fn forbidden_in(
     block: &[i64],
     table: &[i64],
@@ -79,7 +79,7 @@ fn forbidden_in(
     first <= x && x <= last
 }
 
-// A pair of boxes forbids a point in every named dimension, or it allows it.
+// Whether a pair of boxes allows a point: it does unless it forbids it in every named dimension.
 fn pair_allows(
     block: &[i64],
     table: &[i64],
@@ -100,7 +100,7 @@ fn pair_allows(
     d < k
 }
 
-// Box b and every box of shape s2 of row j.
+// Whether box b is allowed by every box of shape s2 of row j.
 fn shape_allows(
     block: &[i64],
     table: &[i64],
@@ -118,7 +118,7 @@ fn shape_allows(
     c == n
 }
 
-// Every box of shape s.
+// Whether every box of shape s is allowed by every box of shape s2 of row j.
 fn shapes_allow(
     block: &[i64],
     table: &[i64],
@@ -151,13 +151,13 @@ pub(crate) fn has_one_shape(set: i64) -> bool {
     set == numbers::set_of(last_shape(set))
 }
 
-// A row with more than one shape forbids nothing.
+// Whether row j allows the point. A row with more than one shape forbids nothing.
 fn row_allows(block: &[i64], table: &[i64], r: usize, s: usize, j: usize, p: [i64; 4]) -> bool {
     let set = layout::shape_set(block, table, j);
     !has_one_shape(set) || shapes_allow(block, table, r, s, j, last_shape(set), p)
 }
 
-// Every other row that the rule names.
+// Whether every other row that the rule names allows the point.
 fn rows_allow(block: &[i64], table: &[i64], r: usize, i: usize, s: usize, p: [i64; 4]) -> bool {
     let n = layout::rows(block, table);
     let mut j = 0;
@@ -216,7 +216,7 @@ pub(crate) fn points(block: &[i64], table: &[i64], i: usize, more: i64) -> usize
     n
 }
 
-// Point m of them. A coordinate from position k on is any word.
+// Point m of those of the row's ranges. A coordinate from position k on is any word.
 pub(crate) fn point(block: &[i64], table: &[i64], i: usize, m: usize, more: i64) -> [i64; 4] {
     let k = layout::dims(block);
     let mut p = [77i64; 4];
@@ -259,7 +259,7 @@ pub const NOWHERE: [i64; RECORD] = [
     0,
 ];
 
-// With a point of shape s.
+// What is reached with a point of shape s more.
 fn with_point(row: [i64; RECORD], s: usize, p: [i64; 4]) -> [i64; RECORD] {
     let mut r = with_word(row, 0, word(row, 0) | numbers::set_of(s));
     for d in 0..4 {
@@ -273,7 +273,7 @@ fn with_point(row: [i64; RECORD], s: usize, p: [i64; 4]) -> [i64; RECORD] {
     r
 }
 
-// With the allowed points of shape s.
+// What is reached with the allowed points of shape s more.
 pub(crate) fn shape_reach(
     block: &[i64],
     table: &[i64],

@@ -5,14 +5,14 @@ use super::brute::last_shape;
 use super::layout;
 use super::numbers::sum;
 
-// In dimension d box b of row i starts at or past the end of box c of row j.
+// Whether in dimension d box b of row i starts at or past the end of box c of row j.
 fn is_past(block: &[i64], table: &[i64], i: usize, b: usize, j: usize, c: usize, d: usize) -> bool {
     let start = sum(layout::low(block, table, i, d), layout::offset(block, b, d));
     let other = sum(layout::low(block, table, j, d), layout::offset(block, c, d));
     start >= sum(other, layout::size(block, c, d))
 }
 
-// Dimension d is named and parts the two boxes.
+// Whether dimension d is named and parts the two boxes.
 fn parts(
     block: &[i64],
     table: &[i64],
@@ -27,7 +27,7 @@ fn parts(
         && (is_past(block, table, i, b, j, c, d) || is_past(block, table, j, c, i, b, d))
 }
 
-// Some dimension parts them.
+// Whether some dimension parts the two boxes.
 fn boxes_apart(
     block: &[i64],
     table: &[i64],
@@ -65,7 +65,7 @@ fn rows_apart(block: &[i64], table: &[i64], r: usize, i: usize, j: usize) -> boo
     b == n
 }
 
-// Row i and each row before it.
+// Whether row i overlaps no row before it.
 fn row_apart(block: &[i64], table: &[i64], r: usize, i: usize) -> bool {
     let mut j = 0;
     while j < i && (!layout::names_row(block, r, j) || rows_apart(block, table, r, i, j)) {

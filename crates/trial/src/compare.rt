@@ -72,7 +72,7 @@ fn verdict_is(answer: Verdict, finding: i64) -> bool {
 
 // ---- points, and least and greatest coordinates
 
-// Row i and shape s at every point of the widened ranges.
+// Compares row i and shape s at every point of the widened ranges.
 fn points(t: Tally, block: &[i64], table: &[i64], i: usize, s: usize) -> Tally {
     let n = brute::points(block, table, i, 1);
     let mut u = t;
@@ -85,7 +85,7 @@ fn points(t: Tally, block: &[i64], table: &[i64], i: usize, s: usize) -> Tally {
     u
 }
 
-// The least and the greatest coordinate in dimension dim, where r is the row that brute force reaches.
+// Compares the least and the greatest coordinate in dimension dim, where r is the row that brute force reaches.
 pub(crate) fn ends(
     t: Tally,
     block: &[i64],
@@ -123,7 +123,7 @@ fn shape_ends(t: Tally, block: &[i64], table: &[i64], i: usize, s: usize) -> Tal
     u
 }
 
-// Each shape that the row has.
+// Compares the points and the coordinates of each shape that the row has.
 fn shapes(t: Tally, block: &[i64], table: &[i64], i: usize) -> Tally {
     let mut u = t;
     for s in 0..32 {
@@ -137,7 +137,7 @@ fn shapes(t: Tally, block: &[i64], table: &[i64], i: usize) -> Tally {
 
 // ---- narrowing a row, and settling
 
-// What the kernel does to the words of a table, which is settled or of which a row is narrowed: whether it answers as was found.
+// Has the kernel settle a table or narrow a row of it. Whether it answers as was found.
 fn kernel_answers(
     block: &[i64],
     words: &mut [i64],
@@ -152,7 +152,7 @@ fn kernel_answers(
     }
 }
 
-// The kernel's answer and the words that it leaves, where `ours` are those that brute force left.
+// Compares the kernel's answer and the words that it leaves, where `ours` are those that brute force left.
 pub(crate) fn kernel(
     t: Tally,
     block: &[i64],
@@ -179,7 +179,7 @@ fn changed(block: &[i64], table: &[i64], ours: &mut [i64], is_settled: bool, row
     NONE
 }
 
-// Both. What settling finds of a sheet is counted, of a placement it is not.
+// Compares brute force and the kernel. What settling finds of a sheet is counted, of a placement it is not.
 fn change(
     t: Tally,
     block: &[i64],
@@ -206,7 +206,7 @@ fn judging(t: Tally, block: &[i64], table: &[i64]) -> Tally {
 
 // ---- a row, handed out
 
-// The words of a row; none where there is a refusal.
+// The words of a row as brute force reads them; none where there is a refusal.
 fn handing(t: Tally, block: &[i64], table: &[i64], row: i64) -> Tally {
     let k = layout::dims(block);
     let g = refusals::row_refusal(block, table, row);
@@ -219,14 +219,14 @@ fn handing(t: Tally, block: &[i64], table: &[i64], row: i64) -> Tally {
 
 // ---- requests by chance, most of which are refused
 
-// Out of range in most cases.
+// Numbers that are out of range in most cases.
 const ODD_ROWS: [i64; 3] = [i64::MIN, 4294967297, 33];
 
 const ODD_SHAPES: [i64; 4] = [33, 65, i64::MIN, 4294967297];
 
 const ODD_DIMS: [i64; 3] = [64, 4294967296, i64::MIN];
 
-// Once in `of` times each of the odd numbers, or else one of n from -1 on.
+// A number to ask about: once in `of` times each of the odd ones, or else one of n from -1 on.
 fn some_number(seed: &mut usize, odd: &[i64], of: usize, n: usize) -> i64 {
     let m = below(seed, of);
     if m < odd.len() {

@@ -6,7 +6,7 @@ use super::numbers;
 use super::refusals;
 use super::refusals::index;
 
-// A yes or a no.
+// The finding of a yes or a no.
 pub(crate) fn found(yes: bool) -> i64 {
     if yes { 0 } else { NONE }
 }
@@ -36,7 +36,7 @@ fn settling(block: &[i64], table: &mut [i64]) -> i64 {
     brute::settle_rows(block, table)
 }
 
-// Settles the table, or narrows a row.
+// Settles the table or narrows a row of it by brute force.
 pub(crate) fn change(block: &[i64], table: &mut [i64], is_settled: bool, row: i64) -> i64 {
     if is_settled {
         return settling(block, table);

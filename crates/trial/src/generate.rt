@@ -46,20 +46,20 @@ fn some_set(seed: &mut usize, n: usize) -> i64 {
 
 // ---- records
 
-// One that starts with three words: a rule's are its kind, its dimensions and its rows.
+// A record that starts with three words: a rule's are its kind, its dimensions and its rows.
 fn record(a: i64, b: i64, c: i64) -> [i64; RECORD] {
     [a, b, c, 0, 0, 0, 0, 0, 0, 0, 0]
 }
 
-// Every dimension.
+// The set of every dimension.
 const EVERY: i64 = 31;
 
-// Within the limit.
+// The word, or the nearest one that is not past the limit.
 fn clipped(w: i64, limit: i64) -> i64 {
     numbers::lesser(numbers::greater(w, numbers::difference(0, limit)), limit)
 }
 
-// The record with pair d.
+// The record with pair d put in.
 fn with_pair(record: [i64; RECORD], s: Pairs, d: usize, first: i64, second: i64) -> [i64; RECORD] {
     let i = place(s.at, s.step, d);
     let last = if s.is_range {
@@ -71,7 +71,7 @@ fn with_pair(record: [i64; RECORD], s: Pairs, d: usize, first: i64, second: i64)
     with_word(r, plus(i, s.gap), clipped(last, s.limit))
 }
 
-// The record with a pair in each of the dimensions of a set.
+// The record with a pair put in for each of the dimensions of a set.
 fn with_pairs(
     seed: &mut usize,
     record: [i64; RECORD],
@@ -91,7 +91,7 @@ fn with_pairs(
     r
 }
 
-// The first box of each of the shapes, then boxes of any.
+// The shape of box b: the first boxes are one of each shape, and the others of any.
 fn box_shape(seed: &mut usize, shapes: usize, b: usize) -> i64 {
     if shapes == 0 {
         return 1;
@@ -108,7 +108,7 @@ fn box_record(seed: &mut usize, p: Plan, b: usize) -> [i64; RECORD] {
     with_pairs(seed, record(shape, 0, 0), s, p.k, EVERY)
 }
 
-// Every third time with a room.
+// A rule by chance, every third time with a room.
 fn some_rule(seed: &mut usize, p: Plan) -> [i64; RECORD] {
     let s = p.rooms;
     let dims = from(seed, 1, all(p.k));
@@ -135,7 +135,7 @@ fn rule_without(r: usize, k: usize, rows: usize) -> [i64; RECORD] {
     )
 }
 
-// A position's rules have a room and name dimension 0 and row 1.
+// Rule r of a plan. A position's rules have a room and name dimension 0 and row 1.
 fn rule_record(seed: &mut usize, p: Plan, r: usize) -> [i64; RECORD] {
     let s = p.rooms;
     if p.kind == plan::SMALL {
@@ -147,7 +147,7 @@ fn rule_record(seed: &mut usize, p: Plan, r: usize) -> [i64; RECORD] {
     rule_without(r, p.k, p.rows)
 }
 
-// Mostly one shape, so that the row forbids.
+// A row's shape set: mostly one shape, so that the row forbids.
 fn row_shapes(seed: &mut usize, shapes: usize) -> i64 {
     if shapes == 0 {
         return 1;
@@ -183,14 +183,14 @@ fn row_record(seed: &mut usize, p: Plan) -> [i64; RECORD] {
 
 // ---- sheets
 
-// What a record is of.
+// The kinds of records.
 const BOX: usize = 0;
 
 const RULE: usize = 1;
 
 const ROW: usize = 2;
 
-// Record m of the boxes, the rules or the rows, and where it stands.
+// Record m of a kind.
 fn drawn(seed: &mut usize, p: Plan, what: usize, m: usize) -> [i64; RECORD] {
     match what {
         BOX => box_record(seed, p, m),
@@ -199,6 +199,7 @@ fn drawn(seed: &mut usize, p: Plan, what: usize, m: usize) -> [i64; RECORD] {
     }
 }
 
+// Where record m of a kind stands.
 fn place_of(p: Plan, what: usize, m: usize) -> usize {
     match what {
         BOX => layout::box_place(p.k, m),
@@ -214,7 +215,7 @@ fn put_records(seed: &mut usize, words: &mut [i64], p: Plan, what: usize, n: usi
     }
 }
 
-// The words of a plan, where there are zeros.
+// Draws the words of a plan into a run of zeros.
 fn draw(seed: &mut usize, words: &mut [i64], p: Plan) {
     let head = record(
         numbers::word_of(p.k),
@@ -267,13 +268,13 @@ const ODD: [i64; 20] = [
     i64::MIN,
 ];
 
-// One of n words from `first` on is made odd.
+// Makes one of n words from `first` on odd.
 fn spoil(seed: &mut usize, words: &mut [i64], first: usize, n: usize) {
     let i = plus(first, below(seed, n));
     put(words, i, numbers::at(&ODD, below(seed, 20)));
 }
 
-// One more or one less.
+// A length that is one more or one less.
 fn odd_length(seed: &mut usize, n: usize) -> usize {
     if one_of(seed, 2) {
         return plus(n, 1);
@@ -295,7 +296,7 @@ fn spoiled(seed: &mut usize, words: &mut [i64], z: Lengths) -> Lengths {
     y
 }
 
-// Once or twice: of two grounds the first is to be found.
+// Spoils a sheet once or twice: of two grounds the first is to be found.
 fn spoiled_again(seed: &mut usize, words: &mut [i64], z: Lengths) -> Lengths {
     let y = spoiled(seed, words, z);
     if one_of(seed, 2) {
@@ -331,7 +332,7 @@ fn fixed_word(seed: &mut usize, table: &[i64], m: usize, w: usize, before: i64) 
     from(seed, low, plus(numbers::count_of(span), 1))
 }
 
-// Every row, of `len` words, at a shape and a point of its own.
+// Fixes every row, of `len` words, at a shape and a point of its own.
 pub(crate) fn fix(seed: &mut usize, table: &mut [i64], len: usize) {
     let n = table.len();
     let mut x = 0;

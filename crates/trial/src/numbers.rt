@@ -50,7 +50,7 @@ pub(crate) fn is_part(part: &[i64], words: &[i64], first: usize) -> bool {
     w == n
 }
 
-// Whether they are n words.
+// Whether the words of `part` are n, and stand in `words` from `first` on.
 pub(crate) fn is_run(part: &[i64], words: &[i64], first: usize, n: usize) -> bool {
     part.len() == n && is_part(part, words, first)
 }

@@ -27,7 +27,7 @@ pub struct Pairs {
     pub limit: i64,
 }
 
-// With no shapes every box and every row is of shape 1, and no shape is drawn.
+// What a sheet is made of. With no shapes every box and every row is of shape 1, and no shape is drawn.
 pub struct Plan {
     pub kind: usize,
     pub k: usize,
@@ -81,7 +81,8 @@ fn some_base(seed: &mut usize) -> i64 {
     }
 }
 
-// k from 1 to 4, one to four rows, one to three shapes, up to nine boxes, up to three rules of both kinds, with rooms around the ranges.
+// A small sheet: k from 1 to 4, one to four rows, one to three shapes, up to nine boxes, up to three rules of both kinds, with rooms around
+// the ranges.
 fn small(seed: &mut usize) -> Plan {
     let k = plus(1, below(seed, 4));
     let rows = numbers::at_most(plus(1, below(seed, 5)), 4);
@@ -106,7 +107,7 @@ fn small(seed: &mut usize) -> Plan {
 
 // ---- larger sheets
 
-// Their rows, boxes and rules.
+// The rows, boxes and rules of larger sheets.
 fn counts(m: usize) -> [usize; 3] {
     match numbers::remainder(m, 6) {
         0 => [8, 4, 1],
@@ -118,8 +119,9 @@ fn counts(m: usize) -> [usize; 3] {
     }
 }
 
-// In three or four dimensions, small boxes of one outline, far enough apart that those of two rows often pass each other, and ranges of
-// one or two numbers: for what small sheets cannot fill, the kernel's suspects, with room to spare and full, and both lengths of them.
+// A larger sheet: in three or four dimensions, small boxes of one outline, far enough apart that those of two rows often pass each other,
+// and ranges of one or two numbers. So it has what small sheets cannot fill, the kernel's suspects, with room to spare and full, and both
+// lengths of them.
 fn larger(seed: &mut usize, m: usize) -> Plan {
     let k = plus(3, below(seed, 2));
     let n = counts(m);

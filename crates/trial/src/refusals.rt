@@ -32,7 +32,7 @@ fn boxes_hold(block: &[i64]) -> bool {
     b == n
 }
 
-// A room's ends, which are 0 where there is no room.
+// Whether a rule's ends are those of a room, or 0 where there is no room.
 fn room_holds(block: &[i64], r: usize, d: usize) -> bool {
     let low = layout::room_low(block, r, d);
     let high = layout::room_high(block, r, d);
@@ -51,7 +51,7 @@ fn rooms_hold(block: &[i64], r: usize) -> bool {
     d == k
 }
 
-// From 1 to 2^n − 1.
+// Whether a set is from 1 to 2^n − 1.
 fn is_set(set: i64, n: usize) -> bool {
     numbers::is_within(set, 1, numbers::difference(numbers::set_of(n), 1))
 }
@@ -81,7 +81,7 @@ fn has_box(block: &[i64], s: usize) -> bool {
     b < n
 }
 
-// A set of shapes of which each has a box.
+// Whether a word is a set of shapes of which each has a box.
 fn shapes_hold(block: &[i64], set: i64) -> bool {
     let mut s = 0;
     while s < 32 && (!numbers::has(set, s) || has_box(block, s)) {
@@ -198,7 +198,7 @@ pub(crate) fn dim_refusal(block: &[i64], table: &[i64], row: i64, shape: i64, di
     0
 }
 
-// It has one shape and one point.
+// Whether a row has one shape and one point.
 fn row_is_fixed(block: &[i64], table: &[i64], i: usize) -> bool {
     brute::has_one_shape(layout::shape_set(block, table, i))
         && brute::points(block, table, i, 0) == 1

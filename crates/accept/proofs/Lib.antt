@@ -7,3 +7,4 @@ pub mod Stages
 pub mod Numbers
 pub mod Slices
 pub mod Shapes
+pub mod Pairs

@@ -58,9 +58,6 @@ rows-fit block t = div-mul-le-self (length t) (rowLen block)
 pub ltb-not-leb : (a b : ℕ) → ltb a b ≡ not (leb b a)
 ltb-not-leb a b = both-ways _ _ (λ e. ap not (lt-leb b a (ltb-true a b e))) (λ e. lt-ltb a b (leb-false b a (not-true e)))
 
-pub leZ-not-ltZ : (a b : ℤ) → leZ a b ≡ not (ltZ b a)
-leZ-not-ltZ a b = both-ways _ _ (λ e. ap not (false-ltZ b a (leZ-true a b e))) (λ e. true-leZ a b (ltZ-false b a (not-true e)))
-
 -- ---- one shape
 pub one-shape : (z : ℤ) → nat z < 2 ^ 32 → eqb (ones (nat z)) 1 ≡ anyUpTo 32 (holdsOnly z)
 one-shape z h = both-ways _ _ into out

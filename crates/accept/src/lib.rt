@@ -14,6 +14,7 @@ ghost use Rattle.sheet.specs.Accepted.{Head, Rows, Table};
 
 mod block; // block.rt: checks 2 to 4, 6 and 7
 mod range; // range.rt: words and ranges
+pub mod relation; // relation.rt: two rows and a dimension of a placement
 mod table; // table.rt: checks 5, 8 and 12
 
 // ---- a sheet
@@ -75,7 +76,7 @@ fn no_such_dim(block: &[i64], dim: i64) -> bool
     requires { ⌜ Head (now block) ⌝ }
     ensures { λ r. ⌜ ((table : List ℤ) → r ≡ noSuchDim (now (block .entry)) table dim) ⌝ }
 {
-    dim < 0 || words::axes_of(block) as i64 <= dim
+    !range::is_index(dim, words::axes_of(block))
 }
 
 pub fn row_refusal(block: &[i64], table: &[i64], row: i64) -> i64

@@ -1,7 +1,9 @@
 // Words and ranges, as checks 6 to 12 test them.
 ghost use mathlib.Core.Path.{_≡_};
+ghost use mathlib.Core.Bool.{_&&_};
 ghost use Prim.Native.Nat.{_-_, _^_, _≤_};
 ghost use lib.IntN.{pos};
+ghost use lib.Signed.{leZ, ltZ};
 ghost use Rattle.integers.specs.Integer.{eqZ, within};
 ghost use Rattle.accept.specs.Parts.{validRange};
 
@@ -9,6 +11,14 @@ pub(crate) fn is_equal(a: i64, b: i64) -> bool
     ensures { λ r. ⌜ r ≡ eqZ a b ⌝ }
 {
     a == b
+}
+
+// Whether the word is one of the numbers 0 to n − 1.
+pub(crate) fn is_index(z: i64, n: usize) -> bool
+    requires { ⌜ n ≤ 32 ⌝ }
+    ensures { λ r. ⌜ r ≡ (leZ (pos 0) z && ltZ z (pos n)) ⌝ }
+{
+    0 <= z && z < n as i64
 }
 
 pub(crate) fn valid_range(a: i64, b: i64) -> bool

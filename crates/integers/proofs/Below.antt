@@ -135,7 +135,7 @@ sum-lt {n = suc n} {f} {g} h j l s =
 
 -- ---- the first number that passes
 -- none below n, and not n: none below n + 1
-none-more : {n : ℕ} (f : ℕ → Bool) → NoneBelow n f → f n ≡ false → NoneBelow (suc n) f
+pub none-more : {n : ℕ} (f : ℕ → Bool) → NoneBelow n f → f n ≡ false → NoneBelow (suc n) f
 none-more f g e i h = ⊎-elim (λ p. ap f p ∙ e) (λ l. g i l) (last-or h)
 
 pub record Least (n : ℕ) (f : ℕ → Bool) : Type 0 where

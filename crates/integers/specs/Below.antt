@@ -46,6 +46,13 @@ unfoldable pub greatestBelow : ℕ → (ℕ → Bool) → Option ℕ
 greatestBelow zero f = none
 greatestBelow (suc n) f = let before = greatestBelow n f in cond (f n) (some n) before
 
+-- the first, in an order, of the values of f at the numbers 0 to n − 1 that pass p
+unfoldable pub foremost {ℓ} : {A : Type ℓ} → (A → A → Bool) → ℕ → (ℕ → Bool) → (ℕ → A) → Option A
+foremost before zero p f = none
+foremost before (suc n) p f =
+    let rest = foremost before n p f in
+    cond (p n) (some (elim rest [ some z ↦ cond (before z (f n)) z (f n) | none ↦ f n ])) rest
+
 -- the value, or x where there is none
 unfoldable pub valueOr {ℓ} : {A : Type ℓ} → A → Option A → A
 valueOr x none = x

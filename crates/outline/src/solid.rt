@@ -92,7 +92,7 @@ pub(crate) fn put_boxes(block: &[i64], outline: &mut [i64; OUTLINE])
 // ---- hulls
 
 // The smallest extent around two.
-fn around(a: Extent, b: Extent) -> Extent
+pub fn around(a: Extent, b: Extent) -> Extent
     ensures { λ r. ⌜ (r .start ≡ minZ (a .start) (b .start)) × (r .end ≡ maxZ (a .end) (b .end)) ⌝ }
 {
     Extent {

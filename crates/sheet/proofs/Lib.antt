@@ -2,6 +2,8 @@ pub mod Accepted
 pub mod Forbidden
 pub mod Coordinates
 pub mod Exchange
+pub mod Intervals
+pub mod Relation
 pub mod Fixed
 pub mod Catalogue
 pub mod Points

@@ -16,6 +16,9 @@ use Rattle.sheet.specs.declared.Narrowing.{Narrowing}
 use Rattle.sheet.specs.declared.Narrowing.the-variants as N
 use Rattle.sheet.specs.declared.Settling.{Settling}
 use Rattle.sheet.specs.declared.Settling.the-variants as S
+use Rattle.sheet.specs.declared.Allen.{Allen}
+use Rattle.sheet.specs.declared.Standing.{Standing}
+use Rattle.sheet.specs.declared.Standing.the-variants as R
 
 unfoldable pub pointAnswer : ℕ → Bool → PointTest
 pointAnswer zero true = P.Allowed
@@ -41,6 +44,10 @@ unfoldable pub settleAnswer : ℕ → Option (List ℤ) → Settling
 settleAnswer zero (some t) = S.Settled
 settleAnswer zero none = S.NoLayout
 settleAnswer (suc g) o = S.Refused (pos (suc g))
+
+unfoldable pub standingAnswer : ℕ → Allen → Standing
+standingAnswer zero x = R.Bears x
+standingAnswer (suc g) x = R.Refused (pos (suc g))
 
 -- the table after narrowing or settling: unchanged where it is refused or nothing is left
 unfoldable pub tableAfter : ℕ → List ℤ → Option (List ℤ) → List ℤ

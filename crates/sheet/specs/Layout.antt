@@ -159,6 +159,10 @@ module _ (block : List ℤ) where
     unfoldable pub hasOnly : ℕ → ℕ → Bool
     hasOnly i s = holdsOnly (shapeSet i) s
 
+    -- box b is one of a shape in the set
+    unfoldable pub ofRow : ℕ → ℕ → Bool
+    ofRow i b = hasShape i (nat (shapeOf b))
+
     unfoldable pub validRow : ℕ → Bool
     validRow i =
         within (pos 1) (pos (2 ^ 32 - 1)) (shapeSet i)
@@ -172,5 +176,5 @@ module _ (block : List ℤ) where
 unfoldable pub layout : Unit {0}
 unfolding dims boxes rules axes boxLen ruleLen rowLen blockLen boxAt ruleAt rowAt shapeOf offset size isOf validBox kind
     isNonOverlap isContainment dimSet rowSet roomLow roomHigh namesDim namesRow validEnds validRule rows shapeSet low high
-    hasShape hasOnly validRow
+    hasShape hasOnly ofRow validRow
 layout = tt

@@ -4,6 +4,7 @@ pub mod Placement
 pub mod Bounds
 pub mod Narrow
 pub mod Settle
+pub mod Relation
 pub mod Refusal
 pub mod Accepted
 pub mod Answer

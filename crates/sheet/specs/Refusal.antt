@@ -11,7 +11,7 @@ use lib.Signed.{leZ, ltZ}
 use Rattle.integers.specs.Integer.{nat, within}
 use Rattle.integers.specs.Below.{allBelow, allUpTo}
 use Rattle.integers.specs.Words.{word}
-use Rattle.sheet.specs.Layout.{axes, boxes, rules, rowLen, blockLen, rowAt, validBox, validRule, rows, hasShape, validRow}
+use Rattle.sheet.specs.Layout.{dims, axes, boxes, rules, rowLen, blockLen, rowAt, validBox, validRule, rows, hasShape, validRow}
 use Rattle.sheet.specs.Placement.{fixed}
 
 -- a refusal's number where its check applies, and 0 where it does not
@@ -42,6 +42,10 @@ module _ (block : List ℤ) where
   -- 6
   unfoldable pub badBox : Bool
   badBox = not (allBelow (boxes block) (validBox block))
+
+  -- 11 of a relation (T-01): the dimension asked about is none of the boxes', 0 to k − 1
+  unfoldable pub noBoxDim : ℤ → Bool
+  noBoxDim dim = not (leZ (pos 0) dim && ltZ dim (pos (dims block)))
 
   module _ (table : List ℤ) where
     -- 5: not n(1 + 2k) words with n from 1 to 32
@@ -94,6 +98,11 @@ module _ (block : List ℤ) where
     unfoldable pub refusalPlacement : ℕ
     refusalPlacement = refusal else 12 when notFixed
 
+    -- and two rows and a dimension of their boxes, in a placement (T-01)
+    unfoldable pub refusalRelation : ℤ → ℤ → ℤ → ℕ
+    refusalRelation row other dim =
+        refusalRow row else 9 when noSuchRow other else 11 when noBoxDim dim else 12 when notFixed
+
     -- ---- the row slice: the part of the table where the row stands; empty when refused
     unfoldable pub sliceUnless : ℕ → ℕ → List ℤ
     sliceUnless zero i = take (rowLen block) (drop (rowAt block i) table)
@@ -112,6 +121,6 @@ module _ (block : List ℤ) where
 
 -- one name that opens every definition above: `unfolding refusing`
 unfoldable pub refusing : Unit {0}
-unfolding _when_ _else_ badHead badCounts badBlockLength badBox badTableLength badRule badRow noSuchRow noSuchShape noSuchDim
-    notFixed refusal refusalRow refusalShape refusalDim refusalPlacement sliceUnless rowSlice startUnless rowStart
+unfolding _when_ _else_ badHead badCounts badBlockLength badBox noBoxDim badTableLength badRule badRow noSuchRow noSuchShape noSuchDim
+    notFixed refusal refusalRow refusalShape refusalDim refusalPlacement refusalRelation sliceUnless rowSlice startUnless rowStart
 refusing = tt

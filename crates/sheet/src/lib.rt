@@ -57,3 +57,28 @@ pub enum Settling {
     NoLayout,
     Refused(i64),
 }
+
+// ---- how two rows stand to each other (document 02, T-01)
+
+// The relations of document 004, with their numbers in the request's order; specs/Relation.antt has the rule of each.
+pub enum Allen {
+    Precedes = 1,
+    Meets = 2,
+    Overlaps = 3,
+    Contains = 4,
+    Starts = 5,
+    Finishes = 6,
+    Equals = 7,
+    StartedBy = 8,
+    FinishedBy = 9,
+    During = 10,
+    OverlappedBy = 11,
+    MetBy = 12,
+    PrecededBy = 13,
+}
+
+// Which of them the one row bears to the other.
+pub enum Standing {
+    Bears(Allen),
+    Refused(i64),
+}

@@ -1,0 +1,4 @@
+pub mod Table
+pub mod Extents
+pub mod Answers
+pub mod Promise

@@ -1,0 +1,3 @@
+pub mod Comparisons
+pub mod Rows
+pub mod Exchange

@@ -47,7 +47,7 @@
       9   the row asked about is outside 1 to n
      10   the shape asked about is not in that row's set
      11   the dimension asked about is outside 0 to k - 1
-     12   a placement to be checked is not fixed: some range has several numbers or some set several shapes
+     12   the placement is not fixed: some range has several numbers or some set several shapes
 
    2 to 12 are refusals; the first that applies is given, in this order. 1 is the refusal of a text and
    is never given here. Every function makes the checks 2 to 8 itself, so zk_refusal need not be called
@@ -129,6 +129,36 @@ int64_t zk_narrow(const int64_t *block, size_t block_len, int64_t *table, size_t
    done. -1: no layout, some row has no place left. A settled table need not contain a layout; for a fixed
    placement ask zk_check_placement. Refusals 2 to 8. */
 int64_t zk_settle(const int64_t *block, size_t block_len, int64_t *table, size_t table_len);
+
+/* How two rows of a fixed placement stand to each other in a dimension. A row runs there from the lowest
+   start to the highest end of its boxes, offsets and the row's coordinate included; gaps between boxes
+   lie inside. Exactly one of Allen's thirteen interval relations holds, for two rows that overlap too, and
+   with row and other exchanged the converse does; a row equals itself. No rule plays a part.
+   0: relation is what row bears to other. Never -1. Refusals 2 to 8, 9 for either row, 11 and 12, which
+   looks at the whole table. When refused relation is 0. */
+enum {
+    ZK_PRECEDES = 1,      /* ends before the other starts */
+    ZK_MEETS = 2,         /* ends where the other starts */
+    ZK_OVERLAPS = 3,      /* starts and ends before the other does, and ends past its start */
+    ZK_CONTAINS = 4,      /* starts before the other and ends after it */
+    ZK_STARTS = 5,        /* starts with the other and ends before it */
+    ZK_FINISHES = 6,      /* starts after the other and ends with it */
+    ZK_EQUALS = 7,        /* starts and ends with the other */
+    ZK_STARTED_BY = 8,    /* converse of ZK_STARTS */
+    ZK_FINISHED_BY = 9,   /* converse of ZK_FINISHES */
+    ZK_DURING = 10,       /* converse of ZK_CONTAINS */
+    ZK_OVERLAPPED_BY = 11, /* converse of ZK_OVERLAPS */
+    ZK_MET_BY = 12,       /* converse of ZK_MEETS */
+    ZK_PRECEDED_BY = 13   /* converse of ZK_PRECEDES */
+};
+
+struct zk_standing {
+    int64_t finding;
+    int64_t relation;
+};
+
+struct zk_standing zk_relation(const int64_t *block, size_t block_len, const int64_t *table, size_t table_len,
+                               int64_t row, int64_t other, int64_t dimension);
 
 /* Where the row stands in its table: table[start] to table[start + length - 1], its shape set first. When
    refused both are 0, and zk_row_refusal gives the refusal. */

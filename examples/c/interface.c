@@ -1,5 +1,5 @@
 /* Calls every function of zivokkal.h on good, other and refused input and compares what comes back with
-   document 01, worked out by hand. Prints the number of comparisons; exit status 1 on a difference. */
+   documents 01 and 02, worked out by hand. Prints the number of comparisons; exit status 1 on a difference. */
 #include <inttypes.h>
 #include <stdio.h>
 #include <string.h>
@@ -34,6 +34,12 @@ static void same_span(const char *what, int64_t start, int64_t length, struct zk
     same(what, length, got.length);
 }
 
+static void same_standing(const char *what, int64_t finding, int64_t relation, struct zk_standing got)
+{
+    same(what, finding, got.finding);
+    same(what, relation, got.relation);
+}
+
 /* k = 1: A is shape 1 of size 3, B is shape 2 of size 2; rows 1 and 2 do not overlap. No block below has more
    than MOST words. */
 enum { BLOCK = 14, TABLE = 6, MOST = 17 };
@@ -63,6 +69,7 @@ static void refused(const char *what, int64_t number, const int64_t *block, size
     same(what, number, zk_narrow(b, block_len, t, table_len, 1));
     same(what, number, zk_settle(b, block_len, t, table_len));
     same_span(what, 0, 0, zk_row_span(b, block_len, t, table_len, 1));
+    same_standing(what, number, 0, zk_relation(b, block_len, t, table_len, 1, 2, 0));
     same_words(what, block, b, block_len);
     same_words(what, table, t, table_len);
 }
@@ -185,12 +192,56 @@ static void changes(void)
     settles("size 2 or 1", sizes, MOST, either, 0, smaller);
 }
 
+/* The first row, of size 4, is at x and the second, of size 2, at 0: what the first bears to the second, and the second
+   to the first. */
+static void stands(int64_t x, int64_t relation, int64_t converse)
+{
+    static const int64_t block[] = {1, 2, 0,  1, 0, 4,  2, 0, 2};
+    int64_t table[TABLE] = {1, x, x,  2, 0, 0};
+    same_standing("first and second", 0, relation, zk_relation(block, 9, table, TABLE, 1, 2, 0));
+    same_standing("second and first", 0, converse, zk_relation(block, 9, table, TABLE, 2, 1, 0));
+    same_standing("a row and itself", 0, ZK_EQUALS, zk_relation(block, 9, table, TABLE, 1, 1, 0));
+}
+
+static void relations(void)
+{
+    /* shape 1 has boxes from 1 to 2 and from 3 to 5; shape 2 one of size 4 */
+    static const int64_t gap[] = {1, 3, 0,  1, 1, 1,  1, 3, 2,  2, 0, 4};
+    /* shape 1 has boxes from 2 to 5 and from -4 to -3; shape 2 one of size 2 */
+    static const int64_t apart[] = {1, 3, 0,  1, 2, 3,  1, -4, 1,  2, 0, 2};
+    static const int64_t at1[TABLE] = {1, 0, 0,  2, 1, 1};
+    static const int64_t at5[TABLE] = {1, 0, 0,  2, 5, 5};
+    /* k = 2: two fixed rows, and one that is not */
+    static const int64_t square[] = {2, 1, 0,  1, 0, 0, 2, 2};
+    static const int64_t three[] = {1, 0, 0, 0, 0,  1, 2, 2, 1, 1,  1, 0, 1, 0, 0};
+    stands(-5, ZK_PRECEDES, ZK_PRECEDED_BY);
+    stands(-4, ZK_MEETS, ZK_MET_BY);
+    stands(-3, ZK_OVERLAPS, ZK_OVERLAPPED_BY);
+    stands(-2, ZK_FINISHED_BY, ZK_FINISHES);
+    stands(-1, ZK_CONTAINS, ZK_DURING);
+    stands(0, ZK_STARTED_BY, ZK_STARTS);
+    stands(1, ZK_OVERLAPPED_BY, ZK_OVERLAPS);
+    stands(2, ZK_MET_BY, ZK_MEETS);
+    stands(3, ZK_PRECEDED_BY, ZK_PRECEDES);
+    same_standing("a gap lies inside", 0, ZK_EQUALS, zk_relation(gap, 12, at1, TABLE, 1, 2, 0));
+    same_standing("boxes in any order", 0, ZK_MEETS, zk_relation(apart, 12, at5, TABLE, 1, 2, 0));
+    same_standing("dimension 0", 0, ZK_MEETS, zk_relation(square, 8, three, 10, 1, 2, 0));
+    same_standing("dimension 1", 0, ZK_OVERLAPS, zk_relation(square, 8, three, 10, 1, 2, 1));
+    same_standing("other row 3", 9, 0, zk_relation(square, 8, three, 10, 1, 3, 0));
+    same_standing("row 0", 9, 0, zk_relation(square, 8, three, 10, 0, 1, 0));
+    same_standing("dimension 2", 11, 0, zk_relation(square, 8, three, 10, 1, 2, 2));
+    same_standing("rows before dimensions", 9, 0, zk_relation(square, 8, three, 10, 9, 1, 9));
+    same_standing("row 3 is not fixed", 12, 0, zk_relation(square, 8, three, 15, 1, 2, 0));
+    same_standing("dimensions before that", 11, 0, zk_relation(square, 8, three, 15, 1, 2, 5));
+}
+
 int main(void)
 {
     refusals();
     points();
     bounds();
     changes();
+    relations();
     printf("%d comparisons, %d differ\n", compared, differ);
     return differ ? 1 : 0;
 }

@@ -12,7 +12,11 @@ use Rattle.sheet.specs.declared.Narrowing.{Narrowing}
 use Rattle.sheet.specs.declared.Narrowing.the-variants as N
 use Rattle.sheet.specs.declared.Settling.{Settling}
 use Rattle.sheet.specs.declared.Settling.the-variants as S
+use Rattle.sheet.specs.declared.Standing.{Standing}
+use Rattle.sheet.specs.declared.Standing.the-variants as R
+use Rattle.sheet.specs.Relation.{relationNumber}
 use Rattle.capi.specs.declared.BoundFinding.{BoundFinding}
+use Rattle.capi.specs.declared.StandingFinding.{StandingFinding}
 
 unfoldable pub pointFinding : PointTest → ℤ
 pointFinding P.Allowed = pos 0
@@ -42,3 +46,8 @@ unfoldable pub settleFinding : Settling → ℤ
 settleFinding S.Settled = pos 0
 settleFinding S.NoLayout = minus 1
 settleFinding (S.Refused g) = g
+
+-- the relation's number is 0 when refused
+unfoldable pub standingFinding : Standing → StandingFinding
+standingFinding (R.Bears x) = record { finding = pos 0; relation = pos (relationNumber x) }
+standingFinding (R.Refused g) = record { finding = g; relation = pos 0 }

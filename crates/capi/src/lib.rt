@@ -10,13 +10,17 @@ ghost use Rattle.sheet.specs.Placement.{good};
 ghost use Rattle.sheet.specs.Bounds.{leastOf, greatestOf};
 ghost use Rattle.sheet.specs.Narrow.{narrowOf};
 ghost use Rattle.sheet.specs.Settle.{settleOf};
-ghost use Rattle.sheet.specs.Refusal.{refusal, refusalRow, refusalShape, refusalDim, refusalPlacement, rowSlice, rowStart};
-ghost use Rattle.sheet.specs.Answer.{pointAnswer, verdictAnswer, boundAnswer, narrowAnswer, settleAnswer, tableAfter};
+ghost use Rattle.sheet.specs.Relation.{relationNumber, relationOf};
+ghost use Rattle.sheet.specs.Refusal.{refusal, refusalRow, refusalShape, refusalDim, refusalPlacement, refusalRelation, rowSlice, rowStart};
+ghost use Rattle.sheet.specs.Answer.{pointAnswer, verdictAnswer, boundAnswer, narrowAnswer, settleAnswer, standingAnswer, tableAfter};
 ghost use Rattle.capi.specs.Findings.{pointFinding, verdictFinding, noBound, boundFinding, narrowFinding, settleFinding};
+ghost use Rattle.capi.specs.Findings.{standingFinding};
+use sheet::Allen;
 use sheet::Bound;
 use sheet::Narrowing;
 use sheet::PointTest;
 use sheet::Settling;
+use sheet::Standing;
 use sheet::Verdict;
 
 // ---- results in C's layout
@@ -33,6 +37,13 @@ pub struct BoundFinding {
 pub struct RowSpan {
     pub start: i64,
     pub length: i64,
+}
+
+// struct zk_standing: the relation's number, 1 to 13; 0 when refused.
+#[repr(C)]
+pub struct StandingFinding {
+    pub finding: i64,
+    pub relation: i64,
 }
 
 // ---- findings as words
@@ -96,6 +107,27 @@ fn settle_finding(x: Settling) -> i64
         Settling::Settled => 0,
         Settling::NoLayout => -1,
         Settling::Refused(g) => g,
+    }
+}
+
+fn relation_number(x: Allen) -> i64
+    ensures { λ r. ⌜ r ≡ pos (relationNumber x) ⌝ }
+{
+    x as i64
+}
+
+fn standing_finding(x: Standing) -> StandingFinding
+    ensures { λ r. ⌜ r ≡ standingFinding x ⌝ }
+{
+    match x {
+        Standing::Bears(y) => StandingFinding {
+            finding: 0,
+            relation: relation_number(y),
+        },
+        Standing::Refused(g) => StandingFinding {
+            finding: g,
+            relation: 0,
+        },
     }
 }
 
@@ -198,4 +230,18 @@ pub extern "C" fn zk_row_span(block: &[i64], table: &[i64], row: i64) -> RowSpan
         start: span.start as i64,
         length: span.length as i64,
     }
+}
+
+#[no_mangle]
+pub extern "C" fn zk_relation(
+    block: &[i64],
+    table: &[i64],
+    row: i64,
+    other: i64,
+    dimension: i64,
+) -> StandingFinding
+    ensures { λ r. ⌜ r ≡ standingFinding (standingAnswer (refusalRelation (now (block .entry)) (now (table .entry)) row other dimension)
+        (relationOf (now (block .entry)) (now (table .entry)) (nat row) (nat other) (nat dimension))) ⌝ }
+{
+    standing_finding(relate::relation(block, table, row, other, dimension))
 }

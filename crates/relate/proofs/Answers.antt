@@ -12,6 +12,6 @@ unfolding standingAnswer
 answer-refused {g = zero} x h = absurd (not-suc-le-zero h)
 answer-refused {g = suc n} x h = refl
 
-pub answer-bears : {g : ℕ} {x y : Allen} → g ≡ 0 → x ≡ y → R.Bears x ≡ standingAnswer g y
+pub answer-bears : {g : ℕ} (x : Allen) → g ≡ 0 → standingAnswer g x ≡ R.Bears x
 unfolding standingAnswer
-answer-bears e h = rw (e, h)
+answer-bears x e = rw e

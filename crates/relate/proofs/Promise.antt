@@ -21,6 +21,7 @@ use Rattle.sheet.proofs.Relation.{one-relation, rows-exchanged}
 use Rattle.accept.proofs.Numbers.{row-upto}
 use Rattle.accept.proofs.Pairs.{pair-asked}
 use Rattle.relate.specs.Exchange.{conversed}
+use Rattle.relate.proofs.Answers.{answer-refused, answer-bears}
 
 -- ---- an answer's case
 abbrev borne : Allen → Standing → Allen
@@ -30,14 +31,6 @@ borne d (R.Refused g) = d
 abbrev isRefused : Standing → Bool
 isRefused (R.Bears x) = false
 isRefused (R.Refused g) = true
-
-answer-none : {g : ℕ} (x : Allen) → g ≡ 0 → standingAnswer g x ≡ R.Bears x
-unfolding standingAnswer
-answer-none x e = rw e
-
-answer-some : {g n : ℕ} (x : Allen) → g ≡ suc n → standingAnswer g x ≡ R.Refused (pos (suc n))
-unfolding standingAnswer
-answer-some x e = rw e
 
 module _ (block t : List ℤ) (dim : ℤ) where
   -- the ensures of `relation`
@@ -67,10 +60,10 @@ module _ (block t : List ℤ) (dim : ℤ) where
       by : (g : ℕ) → refusalRelation block t row other dim ≡ g
           → (finding ≡ R.Bears x) ↔ ((refusalRelation block t row other dim ≡ 0) × (holdsOf row other x ≡ true))
       by zero e =
-          let f = p ∙ answer-none rel e in
+          let f = p ∙ answer-bears rel e in
           (λ q. (e, one e .1 (ap (borne x) (sym q ∙ f))), λ w. f ∙ ap R.Bears (sym (one e .0 (w .1))))
       by (suc g) e =
-          (λ q. clash refl (ap isRefused (sym (p ∙ answer-some rel e) ∙ q)), λ w. absurd (omega (arith, e, w .0)))
+          (λ q. clash refl (ap isRefused (sym (p ∙ answer-refused rel (omega (arith, e))) ∙ q)), λ w. absurd (omega (arith, e, w .0)))
 
   -- ---- the rows exchanged
   either : (g : ℕ) (a b : Bool) (h : ℕ) → ((g else 9 when a) else 9 when b else h) ≡ ((g else 9 when b) else 9 when a else h)
@@ -95,5 +88,7 @@ module _ (block t : List ℤ) (dim : ℤ) where
           let a = pair-asked block t row other dim e in
           let r = rows-exchanged block t (accepted-block block t (a .accepted)) (accepted-table block t (a .accepted)) (row-upto (a .row-in))
           (row-upto (a .other-in)) (a .dim-below) in
-          q ∙ answer-none _ (refusal-exchanged row other ∙ e) ∙ ap R.Bears r ∙ sym (ap conversed (p ∙ answer-none _ e))
-      by (suc g) e = q ∙ answer-some _ (refusal-exchanged row other ∙ e) ∙ sym (ap conversed (p ∙ answer-some _ e))
+          q ∙ answer-bears _ (refusal-exchanged row other ∙ e) ∙ ap R.Bears r ∙ sym (ap conversed (p ∙ answer-bears _ e))
+      by (suc g) e =
+          q ∙ answer-refused _ (omega (arith, refusal-exchanged row other, e)) ∙ ap (λ (n : ℕ). R.Refused (pos n)) (refusal-exchanged row other)
+          ∙ sym (ap conversed (p ∙ answer-refused _ (omega (arith, e))))

@@ -12,3 +12,4 @@ pub mod Text
 pub mod Computing
 pub mod Positions
 pub mod TextPositions
+pub mod RelationPositions

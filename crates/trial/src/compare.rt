@@ -17,6 +17,7 @@ use super::numbers::place;
 use super::plan;
 use super::refusals;
 use super::refusals::index;
+use super::relations;
 use super::tally::Tally;
 use sheet::Bound;
 use sheet::Narrowing;
@@ -26,7 +27,7 @@ use sheet::Verdict;
 
 // ---- an answer of the kernel, and a finding of brute force
 
-fn is_refusal(g: i64, finding: i64) -> bool {
+pub(crate) fn is_refusal(g: i64, finding: i64) -> bool {
     0 < g && g == finding
 }
 
@@ -257,6 +258,7 @@ fn requested_ends(t: Tally, block: &[i64], table: &[i64], row: i64, shape: i64, 
     ends(t, block, table, row, shape, dim, found(word(r, 0) != 0), r)
 }
 
+// One of each kind of request. The number that was drawn for the shape is also that of the other row.
 fn request(t: Tally, seed: &mut usize, block: &[i64], table: &[i64]) -> Tally {
     let n = numbers::plus(layout::rows(block, table), 4);
     let row = some_number(seed, &ODD_ROWS, 12, n);
@@ -267,7 +269,8 @@ fn request(t: Tally, seed: &mut usize, block: &[i64], table: &[i64]) -> Tally {
     let answer = placement::point_allowed(block, table, row, shape, p);
     let v = u.compared(point_is(answer, findings::point(block, table, row, shape, p)));
     let w = change(v, block, table, false, row, false);
-    handing(w, block, table, row)
+    let x = relations::pair(w, block, table, row, shape, dim);
+    handing(x, block, table, row)
 }
 
 fn requests(t: Tally, seed: &mut usize, block: &[i64], table: &[i64]) -> Tally {
@@ -284,7 +287,7 @@ fn placed(t: Tally, seed: &mut usize, block: &[i64], table: &[i64]) -> Tally {
     let mut room = [0i64; TABLE];
     let fixed = numbers::copied(&mut room, table);
     generate::fix(seed, fixed, layout::row_len(layout::dims(block)));
-    let u = judging(t, block, fixed);
+    let u = relations::pairs(judging(t, block, fixed), block, fixed);
     change(u, block, fixed, true, 0, false)
 }
 

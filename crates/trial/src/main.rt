@@ -10,6 +10,7 @@ mod layout; // layout.rt: the words of a sheet
 mod numbers; // numbers.rt: sums and places
 mod plan; // plan.rt: what the sheets are made of
 mod refusals; // refusals.rt: the grounds
+mod relations; // relations.rt: how two rows stand to each other
 mod tally; // tally.rt: what is counted
 
 use generate::BLOCK;
@@ -76,6 +77,8 @@ fn main() {
     print_sheets(b" differ\nsheets: ", t);
     print(b"placements: good ", t.good);
     print(b", not good ", t.bad);
+    print(b"\nrelations: found ", t.related);
+    print(b", kinds ", tally::kinds_of(t));
     print_compared(b"\ncomparisons: ", t);
     let l = sheets(plan::LARGER, LARGER, 362436069362436069);
     print_sheets(b"larger sheets: ", l);

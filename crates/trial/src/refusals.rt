@@ -187,15 +187,16 @@ pub(crate) fn shape_refusal(block: &[i64], table: &[i64], row: i64, shape: i64) 
     10
 }
 
+fn is_no_dim(block: &[i64], dim: i64) -> bool {
+    dim < 0 || dim >= numbers::at(block, 0)
+}
+
 pub(crate) fn dim_refusal(block: &[i64], table: &[i64], row: i64, shape: i64, dim: i64) -> i64 {
     let g = shape_refusal(block, table, row, shape);
     if g > 0 {
         return g;
     }
-    if dim < 0 || dim >= numbers::at(block, 0) {
-        return 11;
-    }
-    0
+    if is_no_dim(block, dim) { 11 } else { 0 }
 }
 
 // Whether a row has one shape and one point.
@@ -219,4 +220,25 @@ pub(crate) fn placement_refusal(block: &[i64], table: &[i64]) -> i64 {
         return g;
     }
     if is_fixed(block, table) { 0 } else { 12 }
+}
+
+// Of two rows and a dimension.
+pub(crate) fn relation_refusal(
+    block: &[i64],
+    table: &[i64],
+    row: i64,
+    other: i64,
+    dim: i64,
+) -> i64 {
+    let g = numbers::greater(
+        row_refusal(block, table, row),
+        row_refusal(block, table, other),
+    );
+    if g > 0 {
+        return g;
+    }
+    if is_no_dim(block, dim) {
+        return 11;
+    }
+    placement_refusal(block, table)
 }

@@ -1,4 +1,5 @@
 // What the trial counts.
+use super::numbers;
 use std::num::wrapping_add_u64;
 
 pub struct Tally {
@@ -10,6 +11,8 @@ pub struct Tally {
     pub none: u64, // sheets with no layout
     pub good: u64, // placements
     pub bad: u64, // placements
+    pub related: u64, // pairs of rows of which a relation was found
+    pub kinds: i64, // the relations that were found, as a set of their numbers
     pub compared: u64, // answers and tables
     pub differ: u64,
 }
@@ -29,6 +32,8 @@ impl Tally {
             none: 0,
             good: 0,
             bad: 0,
+            related: 0,
+            kinds: 0,
             compared: 0,
             differ: 0,
         }
@@ -69,4 +74,20 @@ impl Tally {
         self.bad = and(self.bad, finding == -1);
         self
     }
+
+    pub(crate) fn with_relation(mut self, kind: i64) -> Self {
+        self.related = and(self.related, true);
+        self.kinds = self.kinds | kind;
+        self
+    }
+}
+
+// How many relations were found.
+pub(crate) fn kinds_of(t: Tally) -> u64 {
+    let set = t.kinds;
+    let mut n = 0;
+    for m in 1..14 {
+        n = and(n, numbers::has(set, m));
+    }
+    n
 }

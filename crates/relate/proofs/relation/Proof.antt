@@ -137,7 +137,7 @@ returns-2 c =
     let x = y .before in
     let a = first x in
     let b = second y in
-    answer-bears (no-refusal (x .before .before .before)) (c .between .ensures ∙ rw (a .0, a .1, b .0, b .1))
+    ap R.Bears (c .between .ensures ∙ rw (a .0, a .1, b .0, b .1)) ∙ sym (answer-bears _ (no-refusal (x .before .before .before)))
 
 pub relation-spec : {M : Type 1} → statement M
 relation-spec =

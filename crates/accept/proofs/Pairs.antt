@@ -3,14 +3,13 @@ use mathlib.Core.Path.{_≡_}
 use mathlib.Core.Bool.{true, false}
 use mathlib.Core.List.{List}
 use Prim.Native.Nat.{_<_}
-use native.Mathlib.Omega.{arith}
 use lib.IntN.{ℤ, pos}
 use lib.Signed.{leZ, ltZ}
 use Rattle.integers.specs.Integer.{nat}
 use Rattle.integers.proofs.Booleans.{not-false, and-true}
 use Rattle.integers.proofs.Ints.{ints, disjoint}
 use Rattle.sheet.specs.Layout.{dims}
-use Rattle.sheet.specs.Refusal.{_when_, _else_, noSuchRow, noBoxDim, notFixed, refusal, refusalRow, refusalRelation}
+use Rattle.sheet.specs.Refusal.{_when_, noSuchRow, noBoxDim, refusal, refusalRow, refusalRelation}
 use Rattle.sheet.specs.Accepted.{Count}
 use Rattle.sheet.proofs.Accepted.{when-zero, else-zero, accepted-head, accepted-rows}
 use Rattle.accept.proofs.Numbers.{RowNumber, row-number, row-accepted}

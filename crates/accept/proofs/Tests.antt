@@ -13,7 +13,6 @@ use lib.Dec.{eqb, leb, ltb}
 use lib.IntN.{ℤ, pos}
 use lib.ListN.{length}
 use lib.Pow.{pow-pos}
-use lib.Signed.{leZ, ltZ}
 use mir.Syntax.{w64}
 use mir.Val.{SFits}
 use Rattle.integers.specs.Integer.{nat, eqZ, within}
@@ -22,7 +21,7 @@ use Rattle.integers.specs.Bits.{holdsOnly}
 use Rattle.integers.proofs.Booleans.{not-true, decide, passes, both-ways, or-true, or-left, or-right, clash}
 use Rattle.integers.proofs.Below.{some-upto, upto-some}
 use Rattle.integers.proofs.Bits.{one-lt}
-use Rattle.integers.proofs.Ints.{ints, within-true, leZ-true, true-leZ, ltZ-false, false-ltZ}
+use Rattle.integers.proofs.Ints.{ints, within-true}
 use Rattle.integers.proofs.Sets.{full-le, only-shape, no-only}
 use Rattle.sheet.specs.Layout.{rowLen, kind, isNonOverlap, isContainment, rows}
 

@@ -8,7 +8,7 @@ use super::range;
 use super::row_refusal;
 use super::table;
 
-// The dimension is to be one of the boxes': no other check of a dimension goes by k alone.
+// The dimension is to be one of the boxes', whatever other ranges a row has.
 fn no_box_dim(block: &[i64], dim: i64) -> bool
     requires { ⌜ Head (now block) ⌝ }
     ensures { λ r. ⌜ r ≡ noBoxDim (now (block .entry)) dim ⌝ }

@@ -13,7 +13,7 @@ use sheet::Standing;
 mod extent; // extent.rt: where a row starts and ends
 
 // The relation by four comparisons, each less, equal or greater: the first's end with the second's start, the first's start with the
-// second's end, start with start, and end with end.
+// second's end, start with start, and end with end. Thirteen entries occur; the others have what the first comparisons tell alone.
 const RELATIONS: [[[[Allen; 3]; 3]; 3]; 3] = [
     [[[Allen::Precedes; 3]; 3]; 3],
     [[[Allen::Meets; 3]; 3]; 3],
@@ -41,6 +41,7 @@ fn compared(x: i64, y: i64) -> usize
     1
 }
 
+// What the first bears to the second.
 fn between(x: Extent, y: Extent) -> Allen
     ensures { λ r. ⌜ r ≡ relationBetween (x .start) (x .end) (y .start) (y .end) ⌝ }
 {

@@ -1,23 +1,22 @@
 -- How two rows of an accepted sheet stand to each other: the document's origin and end of a row are the lowest start and the highest end
 -- of its boxes (`extent`), which are those of the placed shape (`of-only`); exactly one of the thirteen relations holds (`one-relation`),
 -- and exchanging the rows gives the converse (`rows-exchanged`). Assumes nothing.
-use mathlib.Core.Path.{_≡_, refl, sym, ap, _∙_}
+use mathlib.Core.Path.{_≡_}
 use mathlib.Core.Logic.{_↔_}
 use mathlib.Core.Bool.{true}
 use mathlib.Core.List.{List}
 use Prim.Native.Nat.{ℕ, _<_}
 use lib.IntN.{ℤ, pos, _+ℤ_}
 use lib.Signed.{_≤ℤ_, _<ℤ_, leZ}
-use Rattle.integers.specs.Integer.{nat}
 use Rattle.integers.specs.Below.{UpTo}
 use Rattle.integers.proofs.Booleans.{both-ways}
-use Rattle.integers.proofs.Foremost.{Order, Foremost, foremost-found}
+use Rattle.integers.proofs.Foremost.{Order, foremost-found}
 use Rattle.integers.proofs.Ints.{ints, eqZ-eq, lin, disjoint, v, _⊕_}
 use Rattle.integers.proofs.Sets.{member-ge-1, living-set, only-held, same-only}
 use Rattle.sheet.specs.declared.Allen.{Allen}
 use Rattle.sheet.specs.Layout.{dims, boxes, shapeOf, offset, size, isOf, rows, shapeSet, low, hasShape, hasOnly, ofRow}
 use Rattle.sheet.specs.Placement.{boxStart, boxEnd}
-use Rattle.sheet.specs.Accepted.{Block, Boxed, Table}
+use Rattle.sheet.specs.Accepted.{Block, Table}
 use Rattle.sheet.specs.Relation.{bears, converse, lowestStart, highestEnd, relationOf}
 use Rattle.sheet.proofs.Intervals.{exactly-one, exchanged}
 

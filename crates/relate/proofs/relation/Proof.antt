@@ -1,5 +1,5 @@
 -- `relate::relation` meets its contract: a refusal is handed on, and otherwise the checks leave two rows and a dimension. Assumes nothing.
-use mathlib.Core.Path.{_≡_, sym, ap, ap₂, _∙_, subst}
+use mathlib.Core.Path.{_≡_, sym, ap, ap₂, _∙_}
 use mathlib.Core.List.{List}
 use lib.IntN.{ℤ, pos, natAbs}
 use mir.Syntax.{w64}
@@ -63,13 +63,15 @@ first : (x : tie.After-of-row) → let e = x .before .before .before in Stands e
 first x =
     let r = x .before .before in
     let e = r .before in
-    rw (r .row-place .ensures .1 ∙ row-is e, dim-is e) at (x .of-row .ensures)
+    let i = r .row-place .ensures .1 ∙ row-is e in
+    (x .of-row .ensures .0 ∙ ap₂ (lowestStart _ _) i (dim-is e), x .of-row .ensures .1 ∙ ap₂ (highestEnd _ _) i (dim-is e))
 
 second : (x : tie.After-of-row2) → let e = x .before .before .before .before in Stands e (x .of-row2 .result) (top e .args .other)
 second x =
     let r = x .before .before in
     let e = r .before .before in
-    rw (r .row-place2 .ensures .1 ∙ other-is e, dim-is e) at (x .of-row2 .ensures)
+    let j = r .row-place2 .ensures .1 ∙ other-is e in
+    (x .of-row2 .ensures .0 ∙ ap₂ (lowestStart _ _) j (dim-is e), x .of-row2 .ensures .1 ∙ ap₂ (highestEnd _ _) j (dim-is e))
 
 refusal-requires : tie.Need-refusal-requires
 refusal-requires c κs = search needs

@@ -1,14 +1,10 @@
 -- `relate::extent::of_row` meets its contract: the extent is that of the row's boxes before b. Assumes nothing.
-use mathlib.Core.Path.{_≡_, refl, sym, ap, _∙_, subst}
-use Prim.Native.Nat.{ℕ, _-_, _≤_, _<_}
+use mathlib.Core.Path.{_≡_, ap, _∙_}
+use Prim.Native.Nat.{_-_, _≤_, _<_}
 use native.Mathlib.Omega.{arith}
 use denote.Ref.{now}
-use Rattle.integers.specs.Integer.{minus}
-use Rattle.integers.specs.Below.{foremost, valueOr}
 use Rattle.integers.proofs.Machine.{num, diff-fits}
-use Rattle.sheet.specs.Layout.{boxes, ofRow}
-use Rattle.sheet.specs.Placement.{boxStart, boxEnd}
-use Rattle.relate.specs.Rows.{RowIn}
+use Rattle.sheet.specs.Layout.{boxes}
 use Rattle.relate.proofs.Extents.{startTo, endTo, start-none, end-none, start-more, end-more, start-all, end-all}
 use Rattle.relate.proofs.extent.of_row.Statement.{statement}
 use Rattle.relate.proofs.extent.of_row.Tie as tie

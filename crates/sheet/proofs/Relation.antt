@@ -1,9 +1,9 @@
 -- How two rows of an accepted sheet stand to each other: the document's origin and end of a row are the lowest start and the highest end
--- of its boxes (`extent`), which are those of the placed shape (`of-only`); exactly one of the thirteen relations holds (`one-relation`),
--- and exchanging the rows gives the converse (`rows-exchanged`). Assumes nothing.
-use mathlib.Core.Path.{_≡_}
+-- of its boxes (`extent`), which in a placement are those of the placed shape (`placed-extent`); exactly one of the thirteen relations holds
+-- (`one-relation`), and exchanging the rows gives the converse (`rows-exchanged`). Assumes nothing.
+use mathlib.Core.Path.{_≡_, sym, _∙_}
 use mathlib.Core.Logic.{_↔_}
-use mathlib.Core.Bool.{true}
+use mathlib.Core.Bool.{Bool, true}
 use mathlib.Core.List.{List}
 use Prim.Native.Nat.{ℕ, _<_}
 use lib.IntN.{ℤ, pos, _+ℤ_}
@@ -37,12 +37,12 @@ module _ (block : List ℤ) (t : List ℤ) where
       (λ g. let q = same-only (shapeSet block t i) e g in let l = member-ge-1 (shapeSet block t i) g in omega (ints, disjoint (shapeOf block b)))
       (λ g. rw (eqZ-eq g) (only-held (shapeSet block t i) s e))
 
-  -- a row from o to e in dimension d: no box of the row starts before o or ends past e, one starts at o, and one ends at e
-  pub record Extends (i d : ℕ) (o e : ℤ) : Type 0 where
-    pub starts : (b : ℕ) → b < boxes block → ofRow block t i b ≡ true → o ≤ℤ boxStart block t i b d
-    pub ends : (b : ℕ) → b < boxes block → ofRow block t i b ≡ true → boxEnd block t i b d ≤ℤ e
-    pub starts-at : (b : ℕ) × (b < boxes block) × (ofRow block t i b ≡ true) × (boxStart block t i b d ≡ o)
-    pub ends-at : (b : ℕ) × (b < boxes block) × (ofRow block t i b ≡ true) × (boxEnd block t i b d ≡ e)
+  -- of some boxes, with row i at its place, none starts before o or ends past e in dimension d, one starts at o, and one ends at e
+  pub record Extends (own : ℕ → Bool) (i d : ℕ) (o e : ℤ) : Type 0 where
+    pub starts : (b : ℕ) → b < boxes block → own b ≡ true → o ≤ℤ boxStart block t i b d
+    pub ends : (b : ℕ) → b < boxes block → own b ≡ true → boxEnd block t i b d ≤ℤ e
+    pub starts-at : (b : ℕ) × (b < boxes block) × (own b ≡ true) × (boxStart block t i b d ≡ o)
+    pub ends-at : (b : ℕ) × (b < boxes block) × (own b ≡ true) × (boxEnd block t i b d ≡ e)
 
   box-long : (i d b : ℕ) → pos 1 ≤ℤ size block b d → boxStart block t i b d <ℤ boxEnd block t i b d
   unfolding boxStart boxEnd
@@ -57,7 +57,7 @@ module _ (block : List ℤ) (t : List ℤ) where
         (x .box, x .below, rw (eqZ-eq (x .is)) (w .1))
 
     -- THE EXTENT of a row: from the lowest start to the highest end of its boxes
-    pub extent : {i : ℕ} → UpTo (rows block t) i → (d : ℕ) → Extends i d (lowestStart block t i d) (highestEnd block t i d)
+    pub extent : {i : ℕ} → UpTo (rows block t) i → (d : ℕ) → Extends (ofRow block t i) i d (lowestStart block t i d) (highestEnd block t i d)
     unfolding lowestStart highestEnd
     extent {i} u d =
         let w = some-box u in
@@ -68,6 +68,19 @@ module _ (block : List ℤ) (t : List ℤ) where
           ends = λ b h g. let q = y .first b h g in omega ints;
           starts-at = (x .at, x .below, x .passes, x .is);
           ends-at = (y .at, y .below, y .passes, y .is);
+        }
+
+    -- THE EXTENT OF A PLACED SHAPE: where the row's set has one shape, of that shape's boxes
+    pub placed-extent : {i : ℕ} (s : ℕ) → UpTo (rows block t) i → hasOnly block t i s ≡ true → (d : ℕ)
+        → Extends (λ b. isOf block b s) i d (lowestStart block t i d) (highestEnd block t i d)
+    placed-extent {i} s u only d =
+        let x = extent u d in
+        let own : (b : ℕ) → ofRow block t i b ≡ isOf block b s = λ b. of-only i s b only in
+        record {
+          starts = λ b h g. x .starts b h (own b ∙ g);
+          ends = λ b h g. x .ends b h (own b ∙ g);
+          starts-at = (x .starts-at .0, x .starts-at .1, sym (own _) ∙ x .starts-at .2, x .starts-at .3);
+          ends-at = (x .ends-at .0, x .ends-at .1, sym (own _) ∙ x .ends-at .2, x .ends-at .3);
         }
 
   module _ (accepted : Block block) (table : Table block t) where

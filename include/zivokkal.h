@@ -137,19 +137,19 @@ int64_t zk_settle(const int64_t *block, size_t block_len, int64_t *table, size_t
    0: relation is what row bears to other. Never -1. Refusals 2 to 8, 9 for either row, 11 and 12, which
    looks at the whole table. When refused relation is 0. */
 enum {
-    ZK_PRECEDES = 1,      /* ends before the other starts */
-    ZK_MEETS = 2,         /* ends where the other starts */
-    ZK_OVERLAPS = 3,      /* starts and ends before the other does, and ends past its start */
-    ZK_CONTAINS = 4,      /* starts before the other and ends after it */
-    ZK_STARTS = 5,        /* starts with the other and ends before it */
-    ZK_FINISHES = 6,      /* starts after the other and ends with it */
-    ZK_EQUALS = 7,        /* starts and ends with the other */
-    ZK_STARTED_BY = 8,    /* converse of ZK_STARTS */
-    ZK_FINISHED_BY = 9,   /* converse of ZK_FINISHES */
-    ZK_DURING = 10,       /* converse of ZK_CONTAINS */
-    ZK_OVERLAPPED_BY = 11, /* converse of ZK_OVERLAPS */
-    ZK_MET_BY = 12,       /* converse of ZK_MEETS */
-    ZK_PRECEDED_BY = 13   /* converse of ZK_PRECEDES */
+    ZK_PRECEDES = 1,         /* ends before the other starts */
+    ZK_MEETS = 2,            /* ends where the other starts */
+    ZK_OVERLAPS = 3,         /* starts and ends before the other does, and ends past its start */
+    ZK_CONTAINS = 4,         /* starts before the other and ends after it */
+    ZK_STARTS = 5,           /* starts with the other and ends before it */
+    ZK_FINISHES = 6,         /* starts after the other and ends with it */
+    ZK_EQUALS = 7,           /* starts and ends with the other */
+    ZK_STARTED_BY = 8,       /* converse of ZK_STARTS */
+    ZK_FINISHED_BY = 9,      /* converse of ZK_FINISHES */
+    ZK_DURING = 10,          /* converse of ZK_CONTAINS */
+    ZK_OVERLAPPED_BY = 11,   /* converse of ZK_OVERLAPS */
+    ZK_MET_BY = 12,          /* converse of ZK_MEETS */
+    ZK_PRECEDED_BY = 13      /* converse of ZK_PRECEDES */
 };
 
 struct zk_standing {

@@ -17,8 +17,16 @@ pub struct Span {
     pub length: i64,
 }
 
+/// What one row bears to another: finding 0 and the relation's number, otherwise the refusal and 0.
+#[repr(C)]
+#[derive(Clone, Copy, Debug, PartialEq)]
+pub struct Standing {
+    pub finding: i64,
+    pub relation: i64,
+}
+
 mod c {
-    use super::{Bound, Span};
+    use super::{Bound, Span, Standing};
 
     // A run is its first word and its length: `block` and `b`, `table` and `t`.
     type Words = *const i64;
@@ -44,6 +52,7 @@ mod c {
         pub fn zk_narrow(block: Words, b: usize, table: *mut i64, t: usize, row: i64) -> i64;
         pub fn zk_settle(block: Words, b: usize, table: *mut i64, t: usize) -> i64;
         pub fn zk_row_span(block: Words, b: usize, table: Words, t: usize, row: i64) -> Span;
+        pub fn zk_relation(block: Words, b: usize, table: Words, t: usize, row: i64, other: i64, dim: i64) -> Standing;
     }
 }
 
@@ -97,4 +106,8 @@ pub fn settle(block: &[i64], table: &mut [i64]) -> i64 {
 
 pub fn row_span(block: &[i64], table: &[i64], row: i64) -> Span {
     unsafe { c::zk_row_span(block.as_ptr(), block.len(), table.as_ptr(), table.len(), row) }
+}
+
+pub fn relation(block: &[i64], table: &[i64], row: i64, other: i64, dimension: i64) -> Standing {
+    unsafe { c::zk_relation(block.as_ptr(), block.len(), table.as_ptr(), table.len(), row, other, dimension) }
 }

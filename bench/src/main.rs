@@ -8,6 +8,7 @@ mod generate;
 #[cfg(kernel)]
 mod kernel;
 mod plain;
+mod relation;
 mod selftest;
 mod sheet;
 mod sweep;
@@ -48,10 +49,12 @@ fn main() -> ExitCode {
         ["--quick"] => table(&quick, ""),
         ["--only", start] => table(&full, start),
         ["--quick", "--only", start] => table(&quick, start),
+        #[cfg(kernel)]
+        ["--relation"] => relation::table(),
         ["--selftest"] => selftest::run(40_000),
         ["--selftest", count] => selftest::run(count.parse().expect("a number of sheets")),
         _ => {
-            eprintln!("words: [--quick] [--only START], or --selftest [COUNT]");
+            eprintln!("words: [--quick] [--only START], or --relation, or --selftest [COUNT]");
             ExitCode::from(2)
         }
     }

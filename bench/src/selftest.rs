@@ -3,6 +3,8 @@
 
 use crate::brute::{self, Brute};
 use crate::generate::{line_sheet, small_sheet, Line, Random, STYLES};
+#[cfg(kernel)]
+use crate::relation::relation;
 use crate::sheet::{refusal, Sheet};
 use crate::SUBJECTS;
 use std::process::ExitCode;
@@ -66,7 +68,7 @@ pub fn run(count: u64) -> ExitCode {
     println!("damaged sheets: {}, by the refusal found (0 to 8): {:?}", counts.damaged, counts.refused);
     println!("sheets of the benchmark's kind, against each other: {}", counts.kind);
     #[cfg(kernel)]
-    println!("other calls of the kernel against brute force: {}", counts.calls);
+    println!("other calls of the kernel: {}", counts.calls);
     println!("{} differences", counts.differences);
     ExitCode::from((counts.differences > 0) as u8)
 }
@@ -138,7 +140,7 @@ fn damaged(sheet: &Sheet, random: &mut Random, counts: &mut Counts) {
     }
 }
 
-/// The kernel's other functions against brute force, refusals 9 to 12 included.
+/// The kernel's other functions against brute force, refusals 9 to 12 included; how two rows stand against plain Rust.
 #[cfg(kernel)]
 fn kernel_calls(sheet: &Sheet, random: &mut Random, counts: &mut Counts) {
     use crate::kernel;
@@ -215,5 +217,10 @@ fn kernel_calls(sheet: &Sheet, random: &mut Random, counts: &mut Counts) {
         true => -1,
     };
     counts.compare("zk_check_placement", sheet, kernel::check_placement(block, &placed), expected);
-    counts.calls += 7;
+
+    let other = random.range(0, n + 1);
+    let standing = kernel::relation(block, &placed, row, other, dimension);
+    let expected = relation(block, &placed, row, other, dimension);
+    counts.compare("zk_relation", sheet, (standing.finding, standing.relation), expected);
+    counts.calls += 8;
 }

@@ -40,8 +40,8 @@ int main(void)
             const char *across = relation(row, other, 1);
             if (along == NULL || across == NULL)
                 return 1;
-            printf("row %" PRId64 " %s row %" PRId64 " along the wall, %s it across the room\n", row, along, other,
-                   across);
+            printf("row %" PRId64 " %s row %" PRId64 " along the wall, ", row, along, other);
+            printf("%s it across the room\n", across);
         }
     return 0;
 }

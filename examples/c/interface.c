@@ -192,8 +192,8 @@ static void changes(void)
     settles("size 2 or 1", sizes, MOST, either, 0, smaller);
 }
 
-/* The first row, of size 4, is at x and the second, of size 2, at 0: what the first bears to the second, and the second
-   to the first. */
+/* The first row, of size 4, is at x and the second, of size 2, at 0: what the first bears to the second, and
+   the second to the first. */
 static void stands(int64_t x, int64_t relation, int64_t converse)
 {
     static const int64_t block[] = {1, 2, 0,  1, 0, 4,  2, 0, 2};

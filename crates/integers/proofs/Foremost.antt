@@ -47,8 +47,8 @@ module _ {ℓ} {A : Type ℓ} (before : A → A → Bool) (p : ℕ → Bool) (f 
       by true (some z) h = refl
 
   -- ---- what it finds
-  abbrev Found : ℕ → Type ℓ
-  Found n = ((z : A) × (foremost before n p f ≡ some z) × Foremost before n p f z) ⊎ ((foremost before n p f ≡ none) × NoneBelow n p)
+  abbrev Outcome : ℕ → Type ℓ
+  Outcome n = ((z : A) × (foremost before n p f ≡ some z) × Foremost before n p f z) ⊎ ((foremost before n p f ≡ none) × NoneBelow n p)
 
   module _ (order : Order before) where
     here : (x : A) → before x x ≡ true
@@ -59,7 +59,7 @@ module _ {ℓ} {A : Type ℓ} (before : A → A → Bool) (p : ℕ → Bool) (f 
         → (i : ℕ) → i < suc n → p i ≡ true → before z (f i) ≡ true
     more {z = z} e g i h t = ⊎-elim (λ q. subst (λ (m : ℕ). before z (f m) ≡ true) (sym q) e) (λ l. g i l t) (last-or h)
 
-    view : (n : ℕ) → Found n
+    view : (n : ℕ) → Outcome n
     unfolding foremost
     view zero = inr (refl, λ i h. absurd (not-suc-le-zero h))
     view (suc n) = step (view n) (p n) refl
@@ -92,7 +92,7 @@ module _ {ℓ} {A : Type ℓ} (before : A → A → Bool) (p : ℕ → Bool) (f 
           },
         )
 
-        step : Found n → (t : Bool) → p n ≡ t
+        step : Outcome n → (t : Bool) → p n ≡ t
             → ((z : A) × (next (p n) (foremost before n p f) ≡ some z) × Foremost before (suc n) p f z)
             ⊎ ((next (p n) (foremost before n p f) ≡ none) × NoneBelow (suc n) p)
         step (inl w) true t = inl (join w (before (w .0) (f n)) refl t)

@@ -14,30 +14,30 @@ use Rattle.sheet.specs.Relation.{relationNumber, relationOf}
 use Rattle.sheet.specs.Positions.{words, row, row2, boxesFrom, line}
 
 -- ---- what is asked, and the answer
-pub data Found : Type 0 where
-  bearsTo : Allen → Found
-  refusedBy : ℕ → Found
+pub data Expected : Type 0 where
+  bearsTo : Allen → Expected
+  refusedBy : ℕ → Expected
 
-pub record Asked : Type 0 where
+pub record StandingCase : Type 0 where
   pub block : List ℤ
   pub table : List ℤ
   pub rowOf : ℤ
   pub other : ℤ
   pub dim : ℤ
-  pub found : Found
+  pub expected : Expected
 
 -- g is the refusal, 0 where there is none, and x the relation
-unfoldable pub isFound : ℕ → Allen → Found → Bool
+unfoldable pub isFound : ℕ → Allen → Expected → Bool
 isFound zero x (bearsTo y) = eqb (relationNumber x) (relationNumber y)
 isFound zero x (refusedBy g) = false
 isFound (suc n) x (bearsTo y) = false
 isFound (suc n) x (refusedBy g) = eqb (suc n) g
 
-unfoldable pub allFound : List Asked → Bool
+unfoldable pub allFound : List StandingCase → Bool
 allFound [] = true
 allFound (c ∷ cs) =
     elim (isFound (refusalRelation (c .block) (c .table) (c .rowOf) (c .other) (c .dim))
-    (relationOf (c .block) (c .table) (nat (c .rowOf)) (nat (c .other)) (nat (c .dim))) (c .found)) [
+    (relationOf (c .block) (c .table) (nat (c .rowOf)) (nat (c .other)) (nat (c .dim))) (c .expected)) [
       | true ↦ allFound cs
       | false ↦ false
     ]
@@ -65,15 +65,15 @@ unfoldable pub openRow : List ℤ
 openRow = row2 1 0 1 0 0
 
 -- ---- the cases
-abbrev asked : List ℤ → List ℤ → ℤ → ℤ → ℤ → Found → Asked
-asked b t i j d f = record { block = b; table = t; rowOf = i; other = j; dim = d; found = f }
+abbrev case : List ℤ → List ℤ → ℤ → ℤ → ℤ → Expected → StandingCase
+case b t i j d f = record { block = b; table = t; rowOf = i; other = j; dim = d; expected = f }
 
 -- the longer row at x: what it bears to the shorter one, and what that bears to it
-abbrev both : ℤ → Allen → Allen → List Asked
+abbrev both : ℤ → Allen → Allen → List StandingCase
 both x to back =
-    asked longAndShort (longAt x) (pos 1) (pos 2) (pos 0) (bearsTo to) ∷ asked longAndShort (longAt x) (pos 2) (pos 1) (pos 0) (bearsTo back) ∷ []
+    case longAndShort (longAt x) (pos 1) (pos 2) (pos 0) (bearsTo to) ∷ case longAndShort (longAt x) (pos 2) (pos 1) (pos 0) (bearsTo back) ∷ []
 
-unfoldable pub standings : List Asked
+unfoldable pub standings : List StandingCase
 standings =
     both (minus 5) A.Precedes A.PrecededBy
     ++ both (minus 4) A.Meets A.MetBy
@@ -86,22 +86,22 @@ standings =
     ++ both (pos 3) A.PrecededBy A.Precedes
     ++ (
     -- offsets count, and a gap between two boxes lies inside
-    asked (twoBoxes (pos 1) 1 (pos 3) 2 4) (row 1 (pos 0) (pos 0) ++ row 2 (pos 1) (pos 1)) (pos 1) (pos 2) (pos 0) (bearsTo A.Equals)
-    ∷ asked (twoBoxes (pos 2) 3 (minus 4) 1 2) (row 1 (pos 0) (pos 0) ++ row 2 (pos 5) (pos 5)) (pos 1) (pos 2) (pos 0) (bearsTo A.Meets)
+    case (twoBoxes (pos 1) 1 (pos 3) 2 4) (row 1 (pos 0) (pos 0) ++ row 2 (pos 1) (pos 1)) (pos 1) (pos 2) (pos 0) (bearsTo A.Equals)
+    ∷ case (twoBoxes (pos 2) 3 (minus 4) 1 2) (row 1 (pos 0) (pos 0) ++ row 2 (pos 5) (pos 5)) (pos 1) (pos 2) (pos 0) (bearsTo A.Meets)
     -- a row and itself; rows that overlap are answered
-    ∷ asked square fixedRows (pos 2) (pos 2) (pos 1) (bearsTo A.Equals)
-    ∷ asked square fixedRows (pos 1) (pos 2) (pos 0) (bearsTo A.Meets)
-    ∷ asked square fixedRows (pos 1) (pos 2) (pos 1) (bearsTo A.Overlaps)
+    ∷ case square fixedRows (pos 2) (pos 2) (pos 1) (bearsTo A.Equals)
+    ∷ case square fixedRows (pos 1) (pos 2) (pos 0) (bearsTo A.Meets)
+    ∷ case square fixedRows (pos 1) (pos 2) (pos 1) (bearsTo A.Overlaps)
     -- 9 of either row, then 11, then 12; the sheet's own before them
-    ∷ asked square fixedRows (pos 1) (pos 3) (pos 0) (refusedBy 9)
-    ∷ asked square fixedRows (pos 0) (pos 1) (pos 0) (refusedBy 9)
-    ∷ asked square fixedRows (pos 1) (pos 2) (pos 2) (refusedBy 11)
-    ∷ asked square fixedRows (pos 1) (pos 2) (minus 1) (refusedBy 11)
-    ∷ asked square fixedRows (pos 9) (pos 1) (pos 9) (refusedBy 9)
-    ∷ asked square (fixedRows ++ openRow) (pos 1) (pos 2) (pos 0) (refusedBy 12)
-    ∷ asked square (fixedRows ++ openRow) (pos 1) (pos 2) (pos 5) (refusedBy 11)
-    ∷ asked square (fixedRows ++ openRow) (pos 1) (pos 4) (pos 5) (refusedBy 9)
-    ∷ asked square (fixedRows ++ words (1 ∷ [])) (pos 1) (pos 4) (pos 5) (refusedBy 5)
+    ∷ case square fixedRows (pos 1) (pos 3) (pos 0) (refusedBy 9)
+    ∷ case square fixedRows (pos 0) (pos 1) (pos 0) (refusedBy 9)
+    ∷ case square fixedRows (pos 1) (pos 2) (pos 2) (refusedBy 11)
+    ∷ case square fixedRows (pos 1) (pos 2) (minus 1) (refusedBy 11)
+    ∷ case square fixedRows (pos 9) (pos 1) (pos 9) (refusedBy 9)
+    ∷ case square (fixedRows ++ openRow) (pos 1) (pos 2) (pos 0) (refusedBy 12)
+    ∷ case square (fixedRows ++ openRow) (pos 1) (pos 2) (pos 5) (refusedBy 11)
+    ∷ case square (fixedRows ++ openRow) (pos 1) (pos 4) (pos 5) (refusedBy 9)
+    ∷ case square (fixedRows ++ words (1 ∷ [])) (pos 1) (pos 4) (pos 5) (refusedBy 5)
     ∷ []
     )
 

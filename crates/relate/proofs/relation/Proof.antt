@@ -54,19 +54,19 @@ module _ (e : tie.Else1) where
   dim-is = cast-nat (top .args .dimension) (top .fits .dimension .sfits) (asks .dim-in)
 
 -- ---- the two extents
-abbrev Stands : (e : tie.Else1) → Extent → ℤ → Type 0
-Stands e x row =
+abbrev IsExtent : (e : tie.Else1) → Extent → ℤ → Type 0
+IsExtent e x row =
     let d = nat (top e .args .dimension) in
     (x .start ≡ lowestStart (block e) (t e) (nat row) d) × (x .end ≡ highestEnd (block e) (t e) (nat row) d)
 
-first : (x : tie.After-of-row) → let e = x .before .before .before in Stands e (x .of-row .result) (top e .args .row)
+first : (x : tie.After-of-row) → let e = x .before .before .before in IsExtent e (x .of-row .result) (top e .args .row)
 first x =
     let r = x .before .before in
     let e = r .before in
     let i = r .row-place .ensures .1 ∙ row-is e in
     (x .of-row .ensures .0 ∙ ap₂ (lowestStart _ _) i (dim-is e), x .of-row .ensures .1 ∙ ap₂ (highestEnd _ _) i (dim-is e))
 
-second : (x : tie.After-of-row2) → let e = x .before .before .before .before in Stands e (x .of-row2 .result) (top e .args .other)
+second : (x : tie.After-of-row2) → let e = x .before .before .before .before in IsExtent e (x .of-row2 .result) (top e .args .other)
 second x =
     let r = x .before .before in
     let e = r .before .before in

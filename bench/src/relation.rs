@@ -1,0 +1,120 @@
+//! How two rows of a placement stand to each other (document 02, T-01), in plain Rust, and the kernel beside it.
+
+use crate::decode::FAR;
+use crate::sheet::{box_len, refusal, row_len};
+use std::cmp::Ordering::{Equal, Greater, Less};
+
+/// The refusal and 0, or 0 and the relation's number.
+pub fn relation(block: &[i64], table: &[i64], row: i64, other: i64, dimension: i64) -> (i64, i64) {
+    let refused = refusal(block, table);
+    if refused != 0 {
+        return (refused, 0);
+    }
+    let k = block[0] as usize;
+    let mut rows = table.chunks_exact(row_len(k));
+    let there = 1..=rows.len() as i64;
+    if !there.contains(&row) || !there.contains(&other) {
+        return (9, 0);
+    }
+    if !(0..k as i64).contains(&dimension) {
+        return (11, 0);
+    }
+    if !rows.all(|row| row[0].count_ones() == 1 && row[1..].chunks_exact(2).all(|range| range[0] == range[1])) {
+        return (12, 0);
+    }
+    let extent = |row: i64| extent(block, &table[(row as usize - 1) * row_len(k)..], dimension as usize);
+    (0, between(extent(row), extent(other)))
+}
+
+/// From the lowest start to the highest end of the row's boxes.
+fn extent(block: &[i64], row: &[i64], d: usize) -> (i64, i64) {
+    let (k, boxes) = (block[0] as usize, block[1] as usize);
+    let own = block[3..].chunks_exact(box_len(k)).take(boxes).filter(|record| row[0] >> (record[0] - 1) & 1 == 1);
+    own.fold((FAR, -FAR), |(low, high), record| {
+        let start = row[1 + 2 * d] + record[1 + d];
+        (low.min(start), high.max(start + record[1 + k + d]))
+    })
+}
+
+fn between((o, e): (i64, i64), (o2, e2): (i64, i64)) -> i64 {
+    match (e.cmp(&o2), o.cmp(&e2), o.cmp(&o2), e.cmp(&e2)) {
+        (Less, ..) => 1,
+        (Equal, ..) => 2,
+        (_, Greater, ..) => 13,
+        (_, Equal, ..) => 12,
+        (.., Less, Less) => 3,
+        (.., Less, Greater) => 4,
+        (.., Equal, Less) => 5,
+        (.., Greater, Equal) => 6,
+        (.., Equal, Equal) => 7,
+        (.., Equal, Greater) => 8,
+        (.., Less, Equal) => 9,
+        (.., Greater, Less) => 10,
+        (.., Greater, Greater) => 11,
+    }
+}
+
+/// Nanoseconds a call over all pairs of rows and all dimensions of placements: the checks alone, the kernel, plain Rust.
+#[cfg(kernel)]
+pub fn table() -> std::process::ExitCode {
+    use crate::generate::{line_sheet, Line, STYLES};
+    use crate::kernel;
+    println!("rows dims boxes   checks   kernel    plain  kernel/plain");
+    let mut ratios = Vec::new();
+    for rows in [2, 8, 32] {
+        for dims in [1, 2, 4] {
+            for boxes in [1, 16] {
+                let line = Line { rows, dims, boxes, wide: false, several: false, copies: 1 };
+                let sheet = line_sheet(&line, STYLES[1], 1);
+                let placed = first_placement(&sheet.table, dims);
+                let block = &sheet.block[..];
+                let checks = |_, _, _| kernel::refusal(block, &placed);
+                let proved = |i, j, d| kernel::relation(block, &placed, i, j, d).relation;
+                let plain = |i, j, d| relation(block, &placed, i, j, d).1;
+                let times = nanoseconds(rows as i64, dims as i64, &[&checks, &proved, &plain]);
+                ratios.push(times[1] / times[2]);
+                let [a, b, c] = [times[0], times[1], times[2]];
+                println!("{rows:>4} {dims:>4} {boxes:>5} {a:8.0} {b:8.0} {c:8.0} {:13.2}", b / c);
+            }
+        }
+    }
+    let worst = ratios.iter().copied().fold(0.0, f64::max);
+    println!("\nkernel/plain: geometric mean {:.2}, worst line {worst:.2}", crate::geometric_mean(ratios.into_iter()));
+    std::process::ExitCode::SUCCESS
+}
+
+/// Every row at the low end of its ranges, with the lowest shape of its set.
+#[cfg(kernel)]
+fn first_placement(table: &[i64], dims: usize) -> Vec<i64> {
+    let mut placed = table.to_vec();
+    for row in placed.chunks_exact_mut(row_len(dims)) {
+        row[0] &= -row[0];
+        row[1..].chunks_exact_mut(2).for_each(|range| range[1] = range[0]);
+    }
+    placed
+}
+
+/// The least of 40 batches for each subject in turn, a batch being every pair of rows and every dimension some times.
+#[cfg(kernel)]
+fn nanoseconds(rows: i64, dims: i64, subjects: &[&dyn Fn(i64, i64, i64) -> i64]) -> Vec<f64> {
+    use std::hint::black_box;
+    let calls = rows * rows * dims;
+    let times = 20_000 / calls + 1;
+    let mut least = vec![f64::MAX; subjects.len()];
+    for _ in 0..40 {
+        for (subject, least) in subjects.iter().zip(&mut least) {
+            let begin = std::time::Instant::now();
+            for _ in 0..times {
+                for i in 1..=rows {
+                    for j in 1..=rows {
+                        for d in 0..dims {
+                            black_box(subject(black_box(i), black_box(j), black_box(d)));
+                        }
+                    }
+                }
+            }
+            *least = least.min(begin.elapsed().as_secs_f64() * 1e9 / (times * calls) as f64);
+        }
+    }
+    least
+}

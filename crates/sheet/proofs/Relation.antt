@@ -46,7 +46,7 @@ module _ (block : List ℤ) (t : List ℤ) where
 
   box-long : (i d b : ℕ) → pos 1 ≤ℤ size block b d → boxStart block t i b d <ℤ boxEnd block t i b d
   unfolding boxStart boxEnd
-  box-long i d b h = omega (ints, lin (v (low block t i d) ⊕ v (offset block b d)), lin (v (low block t i d +ℤ offset block b d) ⊕ v (size block b d)))
+  box-long i d b h = omega (ints, lin (v (low block t i d +ℤ offset block b d) ⊕ v (size block b d)))
 
   module _ (table : Table block t) where
     pub some-box : {i : ℕ} → UpTo (rows block t) i → (b : ℕ) × (b < boxes block) × (ofRow block t i b ≡ true)

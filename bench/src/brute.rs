@@ -30,10 +30,12 @@ pub fn refusal(block: &[i64], table: &[i64]) -> i64 {
         let sets = is(x[1], 1, (1 << k) - 1) && is(x[2], 1, (1 << n) - 1);
         let ends = (0..k).all(|d| {
             let (low, high) = (x[3 + 2 * d], x[4 + 2 * d]);
-            if x[0] == 2 && x[1] & (1 << d) != 0 {
-                is(low, -1_000_000, 1_000_000) && is(high, -1_000_000, 1_000_000) && low <= high
-            } else {
+            if x[1] & (1 << d) == 0 {
                 low == 0 && high == 0
+            } else if x[0] == 1 {
+                is(low, 0, 1_000) && high == 0
+            } else {
+                is(low, -1_000_000, 1_000_000) && is(high, -1_000_000, 1_000_000) && low <= high
             }
         });
         if !(is(x[0], 1, 2) && sets && ends) {
@@ -119,7 +121,8 @@ impl<'a> Brute<'a> {
         (0..self.k).filter(|d| rule[1] >> d & 1 == 1).all(|d| {
             let from = self.high(table, j, d) + self.offset(c, d) - self.offset(b, d) - self.size(b, d) + 1;
             let to = self.low(table, j, d) + self.offset(c, d) + self.size(c, d) - self.offset(b, d) - 1;
-            from <= p[d] && p[d] <= to
+            let clearance = rule[3 + 2 * d];
+            from - clearance <= p[d] && p[d] <= to + clearance
         })
     }
 

@@ -59,7 +59,7 @@ pub struct Solid {
 
 impl Solid {
     /// What the box covers wherever in its ranges the row is placed, as the rule sees it: from its start at the
-    /// highest origin to its end at the lowest. There may be nothing in between.
+    /// highest origin to its end at the lowest, with the rule's slack on either side. There may be nothing in between.
     #[inline(always)]
     pub fn core(&self, row: &Row, rule: &Apart) -> Solid {
         let mut core = *self;
@@ -98,11 +98,10 @@ impl Solid {
     }
 }
 
-/// A kind 1 rule: its rows, and `slack` to widen intervals by: 0 in a named dimension, `FAR` in the others.
+/// A kind 1 rule: its rows, and `slack` to widen intervals by: the clearance in a named dimension, `FAR` in the others.
 #[derive(Clone, Copy)]
 pub struct Apart {
     pub rows: u32,
-    pub dims: u32,
     pub slack: Point,
 }
 
@@ -185,13 +184,13 @@ impl Decoded {
             let (dims, rows) = (record[1] as u32, record[2] as u32);
             if record[0] == APART {
                 let mut slack = [0; 4];
-                for d in (0..k).filter(|d| dims >> d & 1 == 0) {
-                    slack[d] = FAR;
+                for d in 0..k {
+                    slack[d] = if dims >> d & 1 == 1 { record[3 + 2 * d] } else { FAR };
                 }
-                // An earlier rule over these rows and no more dimensions forbids all that this one does.
-                let covers = |a: &Apart| rows & !a.rows == 0 && a.dims & !dims == 0;
+                // An earlier rule over these rows that has no less slack anywhere forbids all that this one does.
+                let covers = |a: &Apart| rows & !a.rows == 0 && (0..k).all(|d| a.slack[d] >= slack[d]);
                 if copies == Copies::Kept || !aparts.iter().any(covers) {
-                    aparts.push(Apart { rows, dims, slack });
+                    aparts.push(Apart { rows, slack });
                 }
             } else {
                 let mut area = Area::ALL;

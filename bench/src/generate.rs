@@ -2,7 +2,7 @@
 //! look like an office's: rows packed in a room, some fixed, some free, and chains of rows that push each
 //! other. The same parameters and seed give the same words on every machine.
 
-use crate::sheet::{Builder, Sheet, MAX_BOXES, MAX_SHAPES};
+use crate::sheet::{Builder, Sheet, MAX_BOXES, MAX_CLEARANCE, MAX_SHAPES};
 
 /// SplitMix64.
 pub struct Random(u64);
@@ -36,8 +36,8 @@ impl Random {
     }
 }
 
-/// A small sheet for the tests: k from 1 to 4, up to five rows of few points, both kinds of rule, overlapping
-/// rules, several shapes and boxes.
+/// A small sheet for the tests: k from 1 to 4, up to six rows of few points, both kinds of rule, overlapping
+/// rules, clearances, several shapes and boxes.
 pub fn small_sheet(seed: u64) -> Sheet {
     let random = &mut Random::new(seed);
     let k = random.range(1, 4) as usize;
@@ -73,7 +73,12 @@ pub fn small_sheet(seed: u64) -> Sheet {
                 let high = point(|_| random.range(5, 12));
                 sheet.add_inside(dims, rows, &low, &high);
             } else {
-                sheet.add_apart(dims, rows);
+                let clearance = point(|_| match random.range(1, 100) {
+                    1 => MAX_CLEARANCE,
+                    2..=33 => random.range(1, 3),
+                    _ => 0,
+                });
+                sheet.add_apart(dims, rows, &clearance);
             }
         }
     }
@@ -108,6 +113,8 @@ pub struct Line {
     pub wide: bool,
     pub several: bool,
     pub copies: usize,
+    /// The rows' clearance in dimension 0.
+    pub aisle: i64,
 }
 
 /// What a sheet of a line is like.
@@ -181,7 +188,7 @@ fn add_rules(sheet: &mut Builder, line: &Line, room: Option<(&P, &P)>) {
         sheet.add_inside(dims, rows, low, high);
     }
     for _ in 0..line.copies {
-        sheet.add_apart(dims, rows);
+        sheet.add_apart(dims, rows, &[line.aisle, 0, 0, 0]);
     }
 }
 
@@ -196,7 +203,7 @@ fn packed(line: &Line, random: &mut Random, room: bool, clash: bool) -> Sheet {
         })
         .collect();
     let shape_of: Vec<usize> = (0..n).map(|i| i % outlines.len()).collect();
-    let (side, places) = pack(random, k, &outlines, &shape_of);
+    let (side, places) = pack(random, k, line.aisle, &outlines, &shape_of);
 
     let mut sheet = Builder::new(k);
     for (s, boxes) in outlines.iter().enumerate() {
@@ -247,19 +254,22 @@ fn end(outline: &Outline, d: usize) -> i64 {
     outline.iter().map(|(t, l)| t[d] + l[d]).max().unwrap()
 }
 
-/// A room's side, and places of the rows in it that do not overlap: random ones, in a room that grows until they
-/// are found, then moved towards the room's corner until they touch.
-fn pack(random: &mut Random, k: usize, outlines: &[Outline], shape_of: &[usize]) -> (i64, Vec<P>) {
+/// A room's side, and places of the rows in it that keep the aisle: random ones, in a room that grows until they
+/// are found, then moved towards the room's corner until they touch or leave just the aisle.
+fn pack(random: &mut Random, k: usize, aisle: i64, outlines: &[Outline], shape_of: &[usize]) -> (i64, Vec<P>) {
+    // Two rows keep the aisle exactly when they do not overlap once each is lengthened by it.
+    let mut lengthened = outlines.to_vec();
+    lengthened.iter_mut().flatten().for_each(|(_, size)| size[0] += aisle);
     let volume = |o: &Outline| (0..k).map(|d| (end(o, d) - start(o, d)) as i128).product::<i128>();
-    let needed: i128 = shape_of.iter().map(|&s| volume(&outlines[s])).sum();
-    let mut side = 1300i64;
+    let needed: i128 = shape_of.iter().map(|&s| volume(&lengthened[s])).sum();
+    let mut side = 1300 + aisle;
     while (side as i128).pow(k as u32) * 7 < needed * 10 {
         side += side / 50;
     }
     let mut places: Vec<P> = Vec::new();
     let clear = |places: &[P], i: usize, p: &P| {
         let mut others = (0..places.len()).filter(|&j| j != i);
-        others.all(|j| !overlap(k, &outlines[shape_of[i]], p, &outlines[shape_of[j]], &places[j]))
+        others.all(|j| !overlap(k, &lengthened[shape_of[i]], p, &lengthened[shape_of[j]], &places[j]))
     };
     while places.len() < shape_of.len() {
         let i = places.len();
@@ -312,6 +322,8 @@ fn chain(line: &Line, random: &mut Random, clash: bool) -> Sheet {
         _ if s == post => POST,
         _ => 10_000,
     };
+    // A row's length and the aisle behind it.
+    let step = |s: usize| length(s) + line.aisle;
     let mut sheet = Builder::new(line.dims);
     for s in 0..=giant {
         for b in 0..line.boxes as i64 {
@@ -331,11 +343,11 @@ fn chain(line: &Line, random: &mut Random, clash: bool) -> Sheet {
         for s in 0..links {
             rows.push(fixed(at));
             // Slots with and without a little room to spare; at a clash the shortest row's is too short.
-            at += POST + length(s) + if s == 0 && clash { -1 } else { random.range(0, 5) };
+            at += step(post) + step(s) + if s == 0 && clash { -1 } else { random.range(0, 5) };
         }
         for _ in links..posts {
             rows.push(fixed(at));
-            at += POST;
+            at += step(post);
         }
         for s in 0..links {
             let longer = line.several && s + 1 < links;
@@ -344,13 +356,13 @@ fn chain(line: &Line, random: &mut Random, clash: bool) -> Sheet {
     } else {
         for _ in 0..posts {
             rows.push(fixed(at));
-            at += POST;
+            at += step(post);
         }
         for s in 0..links {
             let high = if clash && s + 1 == links { at - 1 } else { at + random.range(0, 150) };
             let other = line.several && random.chance(50);
             rows.push(free(1 << s | if other { 1 << giant } else { 0 }, at - random.range(50, 200), high));
-            at += length(s);
+            at += step(s);
         }
         rows.reverse();
     }

@@ -8,6 +8,7 @@ mod generate;
 #[cfg(kernel)]
 mod kernel;
 mod plain;
+#[cfg(kernel)]
 mod relation;
 mod selftest;
 mod sheet;
@@ -61,11 +62,11 @@ fn main() -> ExitCode {
 }
 
 /// The line's parameters, as the table's first columns have them.
-fn parameters(line: &Line) -> [String; 6] {
+fn parameters(line: &Line) -> [String; 7] {
     let ranges = if line.wide { "wide" } else { "narrow" };
     let shapes = if line.several { "several" } else { "one" };
     let [rows, dims, boxes, copies] = [line.rows, line.dims, line.boxes, line.copies].map(|x| x.to_string());
-    [rows, dims, boxes, ranges.to_string(), shapes.to_string(), copies]
+    [rows, dims, boxes, ranges.to_string(), shapes.to_string(), copies, line.aisle.to_string()]
 }
 
 fn lines() -> Vec<Line> {
@@ -76,20 +77,24 @@ fn lines() -> Vec<Line> {
                 for wide in [false, true] {
                     for several in [false, true] {
                         for copies in [1, 31] {
-                            lines.push(Line { rows, dims, boxes, wide, several, copies });
+                            lines.push(Line { rows, dims, boxes, wide, several, copies, aisle: 0 });
                         }
                     }
                 }
             }
         }
     }
+    let plainest = lines.iter().filter(|line| line.dims == 2 && !line.several && line.copies == 1);
+    let with_aisle: Vec<Line> = plainest.map(|line| Line { aisle: 600, ..*line }).collect();
+    lines.extend(with_aisle);
     lines
 }
 
 /// The four sheets of a line. Its seed leaves the copies out: lines that differ in these alone have the same layout.
 fn sheets(line: &Line) -> Vec<Sheet> {
     let seed = ((line.rows * 5 + line.dims) * 17 + line.boxes) * 4 + 2 * line.wide as usize + line.several as usize;
-    STYLES.iter().enumerate().map(|(i, &style)| line_sheet(line, style, (8 * seed + i) as u64)).collect()
+    let first = 8 * seed + 4 * (line.aisle > 0) as usize;
+    STYLES.iter().enumerate().map(|(i, &style)| line_sheet(line, style, (first + i) as u64)).collect()
 }
 
 /// What every subject finds for the sheet, with the number of narrowings, or who differs from the tuned list form.
@@ -173,7 +178,7 @@ struct Measured {
 fn table(effort: &Effort, start: &str) -> ExitCode {
     let mut lines = lines();
     lines.retain(|line| parameters(line).join(" ").starts_with(start));
-    print!("rows dims boxes ranges shapes  copies  settled narrowings ");
+    print!("rows dims boxes ranges shapes  copies aisle  settled narrowings ");
     for (name, _) in SUBJECTS {
         print!(" {name:>9}");
     }
@@ -213,8 +218,8 @@ fn table(effort: &Effort, start: &str) -> ExitCode {
 }
 
 fn print_line(m: &Measured, settled: usize, of: usize, narrowings: usize) {
-    let [rows, dims, boxes, ranges, shapes, copies] = parameters(&m.line);
-    print!("{rows:>4} {dims:>4} {boxes:>5} {ranges:6} {shapes:7} {copies:>6}");
+    let [rows, dims, boxes, ranges, shapes, copies, aisle] = parameters(&m.line);
+    print!("{rows:>4} {dims:>4} {boxes:>5} {ranges:6} {shapes:7} {copies:>6} {aisle:>5}");
     print!("  {:>7} {:10.1} ", format!("{settled}/{of}"), narrowings as f64 / of as f64);
     for time in &m.mean {
         print!(" {time:9.2}");
@@ -267,7 +272,7 @@ fn summary(measured: &[Measured]) {
     let slowest = greatest(measured, |m| m.mean[0]);
     println!("{}: slowest line {:.0} microseconds ({})", SUBJECTS[0].0, slowest.mean[0], name(slowest));
     println!("\nGeometric means of microseconds a settle:");
-    for (column, name) in ["rows", "dims", "boxes", "ranges", "shapes", "copies"].into_iter().enumerate() {
+    for (column, name) in ["rows", "dims", "boxes", "ranges", "shapes", "copies", "aisle"].into_iter().enumerate() {
         let value_of = |m: &Measured| parameters(&m.line)[column].clone();
         let mut values: Vec<String> = Vec::new();
         for m in measured {

@@ -55,7 +55,6 @@ fn between((o, e): (i64, i64), (o2, e2): (i64, i64)) -> i64 {
 }
 
 /// Nanoseconds a call over all pairs of rows and all dimensions of placements: the checks alone, the kernel, plain Rust.
-#[cfg(kernel)]
 pub fn table() -> std::process::ExitCode {
     use crate::generate::{line_sheet, Line, STYLES};
     use crate::kernel;
@@ -64,7 +63,7 @@ pub fn table() -> std::process::ExitCode {
     for rows in [2, 8, 32] {
         for dims in [1, 2, 4] {
             for boxes in [1, 16] {
-                let line = Line { rows, dims, boxes, wide: false, several: false, copies: 1 };
+                let line = Line { rows, dims, boxes, wide: false, several: false, copies: 1, aisle: 0 };
                 let sheet = line_sheet(&line, STYLES[1], 1);
                 let placed = first_placement(&sheet.table, dims);
                 let block = &sheet.block[..];
@@ -84,7 +83,6 @@ pub fn table() -> std::process::ExitCode {
 }
 
 /// Every row at the low end of its ranges, with the lowest shape of its set.
-#[cfg(kernel)]
 fn first_placement(table: &[i64], dims: usize) -> Vec<i64> {
     let mut placed = table.to_vec();
     for row in placed.chunks_exact_mut(row_len(dims)) {
@@ -95,7 +93,6 @@ fn first_placement(table: &[i64], dims: usize) -> Vec<i64> {
 }
 
 /// The least of 40 batches for each subject in turn, a batch being every pair of rows and every dimension some times.
-#[cfg(kernel)]
 fn nanoseconds(rows: i64, dims: i64, subjects: &[&dyn Fn(i64, i64, i64) -> i64]) -> Vec<f64> {
     use std::hint::black_box;
     let calls = rows * rows * dims;

@@ -5,7 +5,7 @@ use crate::brute::{self, Brute};
 use crate::generate::{line_sheet, small_sheet, Line, Random, STYLES};
 #[cfg(kernel)]
 use crate::relation::relation;
-use crate::sheet::{refusal, Sheet};
+use crate::sheet::{refusal, Sheet, MAX_CLEARANCE};
 use crate::SUBJECTS;
 use std::process::ExitCode;
 
@@ -56,6 +56,7 @@ pub fn run(count: u64) -> ExitCode {
             wide: random.chance(50),
             several: random.chance(50),
             copies: random.range(1, 3) as usize,
+            aisle: if random.chance(50) { random.range(1, MAX_CLEARANCE) } else { 0 },
         };
         let style = STYLES[random.range(0, 3) as usize];
         against_each_other(&line_sheet(&line, style, seed), counts);
@@ -108,20 +109,21 @@ fn against_each_other(sheet: &Sheet, counts: &mut Counts) {
 /// The refusals on a sheet in which something was changed, which may leave it accepted.
 fn damaged(sheet: &Sheet, random: &mut Random, counts: &mut Counts) {
     #[rustfmt::skip]
-    const ODD: [i64; 22] = [
-        0, 1, 2, 3, 4, 5, -1, 31, 32, 33, 128, 129, 10_000, 10_001, -10_000, -10_001, 1_000_000, 1_000_001, -1_000_001,
-        1 << 32, i64::MAX, i64::MIN,
+    const ODD: [i64; 24] = [
+        0, 1, 2, 3, 4, 5, -1, 31, 32, 33, 128, 129, 1_000, 1_001, 10_000, 10_001, -10_000, -10_001, 1_000_000,
+        1_000_001, -1_000_001, 1 << 32, i64::MAX, i64::MIN,
     ];
     let mut bad = sheet.clone();
     for _ in 0..random.range(1, 2) {
         let words = if random.chance(60) { &mut bad.block } else { &mut bad.table };
         let place = random.range(0, words.len().max(1) as i64 - 1) as usize;
+        let odd = ODD[random.range(0, ODD.len() as i64 - 1) as usize];
         match random.range(1, 10) {
             1 => words.truncate(place),
             2 => words.push(1),
             3 => words.resize(place + 2 * words.len(), 1),
-            4 if words.len() > 2 => words[place.min(2)] = ODD[random.range(0, 21) as usize],
-            _ if !words.is_empty() => words[place] = ODD[random.range(0, 21) as usize],
+            4 if words.len() > 2 => words[place.min(2)] = odd,
+            _ if !words.is_empty() => words[place] = odd,
             _ => {}
         }
     }

@@ -6,6 +6,7 @@ pub const MAX_BOXES: usize = 128;
 pub const MAX_RULES: usize = 32;
 pub const MAX_ROWS: usize = 32;
 pub const MAX_SHAPES: usize = 32;
+pub const MAX_CLEARANCE: i64 = 1_000;
 
 pub const APART: i64 = 1;
 pub const INSIDE: i64 = 2;
@@ -52,16 +53,19 @@ impl Builder {
         self.boxes.push(record);
     }
 
-    /// The rows of the set `rows` do not overlap in the dimensions of the set `dims`.
-    pub fn add_apart(&mut self, dims: i64, rows: i64) {
-        let mut record = vec![APART, dims, rows];
-        record.resize(rule_len(self.k), 0);
-        self.rules.push(record);
+    /// The rows of the set `rows` keep the clearance in some dimension of the set `dims`.
+    pub fn add_apart(&mut self, dims: i64, rows: i64, clearance: &[i64]) {
+        self.add_rule(APART, dims, rows, clearance, &[0; MAX_DIMS]);
     }
 
-    /// The rows of the set `rows` lie in the room; its low and high words outside `dims` are not read.
+    /// The rows of the set `rows` lie in the room.
     pub fn add_inside(&mut self, dims: i64, rows: i64, low: &[i64], high: &[i64]) {
-        let mut record = vec![INSIDE, dims, rows];
+        self.add_rule(INSIDE, dims, rows, low, high);
+    }
+
+    /// The low and high words outside `dims` are not read.
+    fn add_rule(&mut self, kind: i64, dims: i64, rows: i64, low: &[i64], high: &[i64]) {
+        let mut record = vec![kind, dims, rows];
         for d in 0..self.k {
             let named = dims >> d & 1 == 1;
             record.push(if named { low[d] } else { 0 });
@@ -146,11 +150,9 @@ fn rule_accepted(k: usize, n: usize, record: &[i64]) -> bool {
     if !within(kind, APART, INSIDE) || !within(dims, 1, (1 << k) - 1) || !within(rows, 1, (1 << n) - 1) {
         return false;
     }
-    record[3..].chunks_exact(2).enumerate().all(|(d, w)| {
-        if kind == INSIDE && dims >> d & 1 == 1 {
-            -1_000_000 <= w[0] && w[0] <= w[1] && w[1] <= 1_000_000
-        } else {
-            w[0] == 0 && w[1] == 0
-        }
+    record[3..].chunks_exact(2).enumerate().all(|(d, w)| match kind {
+        _ if dims >> d & 1 == 0 => w[0] == 0 && w[1] == 0,
+        APART => within(w[0], 0, MAX_CLEARANCE) && w[1] == 0,
+        _ => -1_000_000 <= w[0] && w[0] <= w[1] && w[1] <= 1_000_000,
     })
 }

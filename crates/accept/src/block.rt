@@ -3,7 +3,7 @@ ghost use mathlib.Core.Path.{_≡_};
 ghost use mathlib.Core.Bool.{false, _&&_};
 ghost use Prim.Native.Nat.{_<_, _≤_};
 ghost use Rattle.integers.specs.Below.{allBelow};
-ghost use Rattle.sheet.specs.Layout.{dims, isContainment, namesDim, validBox, validEnds, validRule};
+ghost use Rattle.sheet.specs.Layout.{dims, isContainment, namesDim, validBox, validClearance, validEnds, validRule};
 ghost use Rattle.sheet.specs.Refusal.{badHead, badCounts, badBlockLength, badBox, badRule};
 ghost use Rattle.sheet.specs.Accepted.{Head, Rows};
 ghost use Rattle.words.specs.Places.{BoxPlace, RulePlace};
@@ -148,6 +148,17 @@ fn valid_ends(block: &[i64], r: Place, d: usize) -> bool
     if has_room(block, r, d) {
         return range::valid_range(words::room_low(block, r, d), words::room_high(block, r, d));
     }
+    if words::names_dim(block, r, d) {
+        return valid_clearance(block, r, d);
+    }
     range::is_equal(words::room_low(block, r, d), 0)
         && range::is_equal(words::room_high(block, r, d), 0)
+}
+
+fn valid_clearance(block: &[i64], r: Place, d: usize) -> bool
+    requires { ⌜ RulePlace (now block) r × (d < dims (now block)) ⌝ }
+    ensures { λ x. ⌜ x ≡ validClearance (now (block .entry)) (r .number) d ⌝ }
+{
+    let high = words::room_high(block, r, d);
+    words::is_within(words::clearance_of(block, r, d), 0, 1000) && range::is_equal(high, 0)
 }

@@ -34,7 +34,7 @@ module _ (block t o : List ℤ) (r j : Place) where
       → forbidsTo own other p ≡ true → forbidsTo own' other' p ≡ true
   unfolding solidsForbid sideForbids
   solids-wider p x y e = at-all (λ d h. true-implies (λ n.
-      interval-wider _ _ _ _ _ _ _ (x .starts d h) (x .ends d h) (y .starts d h) (y .ends d h) (implies-true (all-at _ e d h) n)))
+      interval-wider _ _ _ _ _ _ _ _ (x .starts d h) (x .ends d h) (y .starts d h) (y .ends d h) (implies-true (all-at _ e d h) n)))
 
   pub solids-boxes : Boxes block o → (i : ℕ) {b c : ℕ} → b < boxes block → c < boxes block → (p : List ℤ)
       → forbidsTo b c p ≡ pairForbids block t (r .number) p i b (j .number) c

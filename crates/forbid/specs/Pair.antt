@@ -7,7 +7,7 @@ use lib.IntN.{ℤ}
 use Rattle.integers.specs.Integer.{within, Within}
 use Rattle.integers.specs.Below.{_⇒_, allBelow}
 use Rattle.integers.specs.Words.{word}
-use Rattle.sheet.specs.Layout.{dims, low, high, namesDim}
+use Rattle.sheet.specs.Layout.{dims, low, high, clearance, namesDim}
 use Rattle.sheet.specs.Accepted.{Block, Table}
 use Rattle.words.specs.Places.{RulePlace, RowPlace}
 use Rattle.points.specs.Area.{reach}
@@ -36,10 +36,10 @@ module _ (block t o : List ℤ) (x : Pair) where
 
   -- the pair's interval in dimension d, and the points that it forbids
   abbrev pub fromOf : ℕ → ℤ
-  fromOf d = forbidFirst (extentOf o (x .own) d) (extentOf o (x .other) d) (high block t (x .j .number) d)
+  fromOf d = forbidFirst (extentOf o (x .own) d) (extentOf o (x .other) d) (high block t (x .j .number) d) (clearance block (x .r .number) d)
 
   abbrev pub toOf : ℕ → ℤ
-  toOf d = forbidLast (extentOf o (x .own) d) (extentOf o (x .other) d) (low block t (x .j .number) d)
+  toOf d = forbidLast (extentOf o (x .own) d) (extentOf o (x .other) d) (low block t (x .j .number) d) (clearance block (x .r .number) d)
 
   unfoldable pub sideForbids : ℕ → ℤ → Bool
   sideForbids d z = namesDim block (x .r .number) d ⇒ within (fromOf d) (toOf d) z

@@ -44,7 +44,9 @@ fn interval_of(
     let other = solid::extent_of(outline, pair.other, d);
     let low = words::low_of(block, table, j, d);
     let high = words::high_of(block, table, j, d);
-    interval::overlapping(own, other, low, high)
+    let r = pair.r;
+    let clearance = words::clearance_of(block, r, d);
+    interval::overlapping(own, other, low, high, clearance)
 }
 
 // Whether the pair forbids x in dimension d, if the rule names d.

@@ -251,17 +251,17 @@ opposite a b c d h = by (leZ c d) refl
     by true e = omega ints
     by false e = omega ints
 
--- a box of size l starts at p + t, another of size l' at q + t': p is in the interval exactly when neither starts at or past
--- the other's end
-pub interval : (q t' l' t l p : ℤ)
-    → within (q +ℤ t' -ℤ t -ℤ l +ℤ pos 1) (q +ℤ t' +ℤ l' -ℤ t -ℤ pos 1) p
-    ≡ not (leZ (q +ℤ t' +ℤ l') (p +ℤ t) || leZ (p +ℤ t +ℤ l) (q +ℤ t'))
+-- a box of size l starts at p + t, another of size l' at q + t': p is in the interval, grown by g at each end, exactly when neither
+-- starts at or past the other's end plus g
+pub interval : (q t' l' t l g p : ℤ)
+    → within (q +ℤ t' -ℤ t -ℤ l +ℤ pos 1 -ℤ g) (q +ℤ t' +ℤ l' -ℤ t -ℤ pos 1 +ℤ g) p
+    ≡ not (leZ (q +ℤ t' +ℤ l' +ℤ g) (p +ℤ t) || leZ (p +ℤ t +ℤ l +ℤ g) (q +ℤ t'))
 unfolding within
-interval q t' l' t l p =
+interval q t' l' t l g p =
     ap₂ _&&_
-    (opposite (q +ℤ t' -ℤ t -ℤ l +ℤ pos 1) p (p +ℤ t +ℤ l) (q +ℤ t')
-    (omega (arith, lin (v q ⊕ v t' ⊖ v t ⊖ v l ⊕ v (pos 1)), lin (v p ⊕ v t ⊕ v l), lin (v q ⊕ v t'))))
-    (opposite p (q +ℤ t' +ℤ l' -ℤ t -ℤ pos 1) (q +ℤ t' +ℤ l') (p +ℤ t)
-    (omega (arith, lin (v q ⊕ v t' ⊕ v l' ⊖ v t ⊖ v (pos 1)), lin (v q ⊕ v t' ⊕ v l'), lin (v p ⊕ v t))))
-    ∙ nor (leZ (p +ℤ t +ℤ l) (q +ℤ t')) (leZ (q +ℤ t' +ℤ l') (p +ℤ t))
-    ∙ ap not (or-comm (leZ (p +ℤ t +ℤ l) (q +ℤ t')) (leZ (q +ℤ t' +ℤ l') (p +ℤ t)))
+    (opposite (q +ℤ t' -ℤ t -ℤ l +ℤ pos 1 -ℤ g) p (p +ℤ t +ℤ l +ℤ g) (q +ℤ t')
+    (omega (arith, lin (v q ⊕ v t' ⊖ v t ⊖ v l ⊕ v (pos 1) ⊖ v g), lin (v p ⊕ v t ⊕ v l ⊕ v g), lin (v q ⊕ v t'))))
+    (opposite p (q +ℤ t' +ℤ l' -ℤ t -ℤ pos 1 +ℤ g) (q +ℤ t' +ℤ l' +ℤ g) (p +ℤ t)
+    (omega (arith, lin (v q ⊕ v t' ⊕ v l' ⊖ v t ⊖ v (pos 1) ⊕ v g), lin (v q ⊕ v t' ⊕ v l' ⊕ v g), lin (v p ⊕ v t))))
+    ∙ nor (leZ (p +ℤ t +ℤ l +ℤ g) (q +ℤ t')) (leZ (q +ℤ t' +ℤ l' +ℤ g) (p +ℤ t))
+    ∙ ap not (or-comm (leZ (p +ℤ t +ℤ l +ℤ g) (q +ℤ t')) (leZ (q +ℤ t' +ℤ l' +ℤ g) (p +ℤ t)))

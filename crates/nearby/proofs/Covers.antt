@@ -11,20 +11,18 @@ use Rattle.integers.specs.Words.{word}
 use Rattle.integers.proofs.Booleans.{clash, fails, true-and}
 use Rattle.integers.proofs.Below.{any-true}
 use Rattle.sheet.specs.Layout.{rules, dims, isNonOverlap, namesDim, namesRow}
-use Rattle.sheet.specs.Allowed.{forbidFrom, forbidTo, pairForbids, setForbids, forbidden}
-use Rattle.sheet.proofs.Forbidden.{pair-at, pair-by, shapes-by, shapes-parts, set-by, set-parts, forbidden-parts}
+use Rattle.sheet.specs.Allowed.{setForbids, forbidden}
+use Rattle.sheet.proofs.Clearance.{pair-wider}
+use Rattle.sheet.proofs.Forbidden.{shapes-by, shapes-parts, set-by, set-parts, forbidden-parts}
 use Rattle.outline.specs.Places.{rulesAt}
+use Rattle.outline.specs.Clearance.{Keeps}
 use Rattle.outline.specs.Rules.{Rules}
 use Rattle.forbid.specs.Region.{ruleForbids}
 use Rattle.forbid.proofs.Rows.{some-row, named-set}
 use Rattle.nearby.specs.Due.{HarmlessBy}
 
-module _ (block t : List ℤ) (r q : ℕ) (fewer : (d : ℕ) → d < dims block → namesDim block q d ≡ true → namesDim block r d ≡ true) where
-  -- what is forbidden in every dimension that r names is so in every dimension that q names
-  pair-covered : (i b j c : ℕ) (p : List ℤ) → pairForbids block t r p i b j c ≡ true → pairForbids block t q p i b j c ≡ true
-  unfolding forbidFrom forbidTo
-  pair-covered i b j c p e = pair-by block t q i b j c p (λ d l n. pair-at block t r i b j c d p e l (fewer d l n))
-
+module _ (block t : List ℤ) (r q : ℕ) (fewer : (d : ℕ) → d < dims block → namesDim block q d ≡ true → namesDim block r d ≡ true)
+    (keeps : Keeps block q r) where
   set-covered : (i s j : ℕ) (p : List ℤ) → setForbids block t r p i s j ≡ true → setForbids block t q p i s j ≡ true
   set-covered i s j p e =
       let w = set-parts block t r i s j p e in
@@ -41,7 +39,7 @@ module _ (block t : List ℤ) (r q : ℕ) (fewer : (d : ℕ) → d < dims block 
           other-below = v .other-below;
           own-is = v .own-is;
           other-is = v .other-is;
-          pair = pair-covered i (v .own) j (v .other) p (v .pair);
+          pair = pair-wider block t r q fewer keeps i (v .own) j (v .other) p (v .pair);
         });
       })
 
@@ -57,7 +55,7 @@ module _ (block t o : List ℤ) (w : Rules block o) where
       (true-and (c .counts) (true-and (true-and (c .kind) (c .names i (u .names)))
       (some-row block t (c .rule) i s (u .other) (u .from) (u .upto) p
       (sym (named-set block t (c .rule) i s (u .other) (u .another) (c .names (u .other) (u .names-other)) p)
-      ∙ set-covered block t (u .rule) (c .rule) (c .dims-of) i s (u .other) p (u .set)))))
+      ∙ set-covered block t (u .rule) (c .rule) (c .dims-of) (c .keeps) i s (u .other) p (u .set)))))
 
   -- where row j does row i no harm by the rules that count, it does none by any
   pub harmless-covered : (j i : ℕ)
@@ -67,4 +65,4 @@ module _ (block t o : List ℤ) (w : Rules block o) where
   harmless-covered j i f r h k nj ni =
       let c = w .covered r h k in
       let u = f (c .rule) (c .below) (c .counts) (c .kind) (c .names j nj) (c .names i ni) in
-      record { spares = λ s p a b. fails (λ e. clash (set-covered block t r (c .rule) (c .dims-of) i s j p e) (u .spares s p a b)) }
+      record { spares = λ s p a b. fails (λ e. clash (set-covered block t r (c .rule) (c .dims-of) (c .keeps) i s j p e) (u .spares s p a b)) }

@@ -10,6 +10,7 @@ use native.Mathlib.Omega.{arith}
 use lib.Bits.{bitAnd, and-shr, and-mod, and-le-r}
 use lib.IntN.{ℤ, pos}
 use lib.Pow.{pow-mono}
+use lib.Signed.{≤ℤ-refl}
 use Rattle.integers.specs.Integer.{nat}
 use Rattle.integers.specs.Bits.{bitAt, bit, holds}
 use Rattle.integers.specs.Words.{word}
@@ -18,7 +19,7 @@ use Rattle.integers.proofs.Below.{below-or, last-or}
 use Rattle.integers.proofs.Bits.{bitAt-small, bitAt-none, bit-one, one-bit, zero-bit, same-bit, bit-past, place-high, place-low}
 use Rattle.integers.proofs.Ints.{ints}
 use Rattle.integers.proofs.Sets.{none-zero}
-use Rattle.sheet.specs.Layout.{rules, isNonOverlap, namesDim, namesRow, dimSet, rowSet}
+use Rattle.sheet.specs.Layout.{rules, isNonOverlap, clearance, namesDim, namesRow, dimSet, rowSet}
 use Rattle.sheet.specs.Accepted.{Count, Head}
 use Rattle.outline.specs.Places.{rulesAt, SameTo}
 use Rattle.outline.specs.Rules.{Covers, CoveredBy, CountedTo, Covered, Rules}
@@ -52,12 +53,12 @@ module _ {block : List ℤ} {m set : ℕ} (x : CountedTo block m set) where
   dims r = nat (dimSet block r)
 
   -- the same set, of one rule more
-  same : (isNonOverlap block m ≡ true → CoveredBy block set (rows m) (dims m)) → CountedTo block (m + 1) set
+  same : (isNonOverlap block m ≡ true → CoveredBy block set m (rows m) (dims m)) → CountedTo block (m + 1) set
   same f = record {
     below = omega (arith, x .below, pow-mono {i = m} {j = m + 1} (omega arith));
     kinds = x .kinds;
     covered = λ r l e. ⊎-elim
-        (λ p. subst (λ (r : ℕ). isNonOverlap block r ≡ true → CoveredBy block set (rows r) (dims r)) (sym p) f e)
+        (λ p. subst (λ (r : ℕ). isNonOverlap block r ≡ true → CoveredBy block set r (rows r) (dims r)) (sym p) f e)
         (λ k. x .covered r k e) (last-or (subst (λ (n : ℕ). r < n) (add-one m) l));
   }
 
@@ -65,7 +66,7 @@ module _ {block : List ℤ} {m set : ℕ} (x : CountedTo block m set) where
   pub counted-kind : isNonOverlap block m ≡ false → CountedTo block (m + 1) set
   counted-kind e = same (λ t. clash t e)
 
-  pub counted-same : CoveredBy block set (rows m) (dims m) → CountedTo block (m + 1) set
+  pub counted-same : CoveredBy block set m (rows m) (dims m) → CountedTo block (m + 1) set
   counted-same c = same (λ t. c)
 
   -- it counts
@@ -79,14 +80,14 @@ module _ {block : List ℤ} {m set : ℕ} (x : CountedTo block m set) where
     more-below : more < 2 ^ (m + 1)
     more-below = subst (λ (n : ℕ). more < 2 ^ n) (sym (add-one m)) (omega (arith, x .below))
 
-    itself : CoveredBy block more (rows m) (dims m)
+    itself : CoveredBy block more m (rows m) (dims m)
     itself = record {
       rule = m;
       counts = one-bit (pos more) m (place-high m (x .below));
-      covers = record { names = λ d e. e; dims-of = λ d e. e };
+      covers = record { names = λ d e. e; dims-of = λ d e. e; keeps = λ d l e. ≤ℤ-refl (clearance block m d) };
     }
 
-    kept : {r d : ℕ} → CoveredBy block set r d → CoveredBy block more r d
+    kept : {q r d : ℕ} → CoveredBy block set q r d → CoveredBy block more q r d
     kept c = record { rule = c .rule; counts = grown (c .rule) (member-below (c .rule) (c .counts)) ∙ c .counts; covers = c .covers }
 
     member-upto : (q : ℕ) → bit (pos more) q ≡ true → q < suc m
@@ -98,12 +99,12 @@ module _ {block : List ℤ} {m set : ℕ} (x : CountedTo block m set) where
       below = more-below;
       kinds = λ q e. ⊎-elim (λ p. ap (isNonOverlap block) p ∙ kind) (λ l. x .kinds q (sym (grown q l) ∙ e)) (last-or (member-upto q e));
       covered = λ r l e. ⊎-elim
-          (λ p. subst (λ (r : ℕ). CoveredBy block more (rows r) (dims r)) (sym p) itself)
+          (λ p. subst (λ (r : ℕ). CoveredBy block more r (rows r) (dims r)) (sym p) itself)
           (λ k. kept (x .covered r k e)) (last-or (subst (λ (n : ℕ). r < n) (add-one m) l));
     }
 
 -- ---- the set in an outline
-module _ (block : List ℤ) (r q : ℕ) (c : Covers block (nat (rowSet block r)) (nat (dimSet block r)) q) where
+module _ (block : List ℤ) (r q : ℕ) (c : Covers block r (nat (rowSet block r)) (nat (dimSet block r)) q) where
   rows-named : (j : ℕ) → namesRow block r j ≡ true → namesRow block q j ≡ true
   unfolding namesRow holds
   rows-named zero e = clash e (none-zero (rowSet block r))
@@ -120,7 +121,7 @@ rules-of-set {block} {o} {set} h x e = record {
   covered = λ r l k. by r (x .covered r l k);
 }
   where
-    by : (r : ℕ) → CoveredBy block set (nat (rowSet block r)) (nat (dimSet block r)) → Covered block o r
+    by : (r : ℕ) → CoveredBy block set r (nat (rowSet block r)) (nat (dimSet block r)) → Covered block o r
     by r c = record {
       rule = c .rule;
       below = member-below x (c .rule) (c .counts);
@@ -128,6 +129,7 @@ rules-of-set {block} {o} {set} h x e = record {
       kind = x .kinds (c .rule) (c .counts);
       names = rows-named block r (c .rule) (c .covers);
       dims-of = λ d l. dims-named block r (c .rule) (c .covers) d;
+      keeps = c .covers .keeps;
     }
 
 -- ---- a run that has the same words
@@ -139,6 +141,7 @@ covered-kept e r y = record {
   kind = y .kind;
   names = y .names;
   dims-of = y .dims-of;
+  keeps = y .keeps;
 }
 
 pub rules-kept : {at : ℕ} {block o o' : List ℤ} → rulesAt < at → SameTo at o o' → Rules block o → Rules block o'

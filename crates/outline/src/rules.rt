@@ -14,6 +14,7 @@ ghost use Rattle.outline.specs.Places.{rulesAt, SameTo};
 ghost use Rattle.outline.specs.Rules.{Covers, CoveredBy, CountedTo, Rules};
 use crate::COUNTING;
 use crate::OUTLINE;
+use crate::clearance;
 use crate::put;
 use words::Place;
 
@@ -38,10 +39,10 @@ fn row_set(block: &[i64], r: Place) -> u32
     words::row_set_of(block, r) as u32
 }
 
-// Whether rule q is one of the set, names each of the rows, and names no dimension but those of `dims`.
-fn covers(block: &[i64], set: u32, q: usize, rows: u32, dims: u32) -> bool
-    requires { ⌜ Block (now block) × (q < rules (now block)) ⌝ }
-    ensures { λ x. ⌜ (x ≡ true → (bit (pos set) q ≡ true) × Covers (now (block .entry)) rows dims q) ⌝ }
+// Whether rule q is one of the set, names each of the rows and no dimension but those of `dims`, and has no less clearance than rule r.
+fn covers(block: &[i64], set: u32, q: usize, r: Place, rows: u32, dims: u32) -> bool
+    requires { ⌜ Block (now block) × (q < rules (now block)) × RulePlace (now block) r ⌝ }
+    ensures { λ x. ⌜ (x ≡ true → (bit (pos set) q ≡ true) × Covers (now (block .entry)) (r .number) rows dims q) ⌝ }
 {
     if !words::has_member(set, q) {
         return false;
@@ -50,17 +51,20 @@ fn covers(block: &[i64], set: u32, q: usize, rows: u32, dims: u32) -> bool
     if !is_part(rows, row_set(block, rule)) {
         return false;
     }
-    is_part(dim_set(block, rule), dims)
+    if !is_part(dim_set(block, rule), dims) {
+        return false;
+    }
+    clearance::is_kept(block, rule, r)
 }
 
-// Whether some rule below n is one of the set, names each of the rows, and names no dimension but those of `dims`.
-fn is_covered(block: &[i64], set: u32, n: usize, rows: u32, dims: u32) -> bool
-    requires { ⌜ Block (now block) × (n ≤ rules (now block)) ⌝ }
-    ensures { λ x. ⌜ (x ≡ true → CoveredBy (now (block .entry)) set rows dims) ⌝ }
+// Whether some rule below n is such a rule.
+fn is_covered(block: &[i64], set: u32, n: usize, r: Place, rows: u32, dims: u32) -> bool
+    requires { ⌜ Block (now block) × (n ≤ rules (now block)) × RulePlace (now block) r ⌝ }
+    ensures { λ x. ⌜ (x ≡ true → CoveredBy (now (block .entry)) set (r .number) rows dims) ⌝ }
 {
     let mut q = 0;
     while q < n {
-        if covers(block, set, q, rows, dims) {
+        if covers(block, set, q, r, rows, dims) {
             return true;
         }
         q += 1;
@@ -79,7 +83,7 @@ fn with_rule(block: &[i64], set: u32, r: usize) -> u32
     }
     let rows = row_set(block, rule);
     let dims = dim_set(block, rule);
-    if is_covered(block, set, r, rows, dims) {
+    if is_covered(block, set, r, rule, rows, dims) {
         return set;
     }
     words::with_member(set, r)

@@ -19,7 +19,7 @@ coordinates = axesMost
 
 -- no bound of an area is farther from 0
 abbrev pub reach : ℕ
-reach = 2000000
+reach = 3000000
 
 -- the larger and the lesser of two integers
 abbrev pub maxZ : ℤ → ℤ → ℤ

@@ -12,7 +12,7 @@ ghost use Rattle.points.specs.Area.{coordinates, maxZ, minZ, areaBy, inA
 pub const COORDINATES: usize = sheet::AXES;
 
 // No bound of an area is farther from 0.
-pub const REACH: i64 = 2000000;
+pub const REACH: i64 = 3000000;
 
 // The larger and the lesser of two numbers.
 pub fn larger(a: i64, b: i64) -> i64

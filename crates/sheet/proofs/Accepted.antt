@@ -16,15 +16,15 @@ use borrow.Author.Tests.{eqb-true, leb-true, eq-eqb, le-leb}
 use Rattle.integers.specs.Integer.{minus, eqZ, within, Within}
 use Rattle.integers.specs.Below.{_⇒_, allBelow, anyBelow}
 use Rattle.integers.specs.Words.{word}
-use Rattle.integers.proofs.Booleans.{not-false, and-true, true-and, or-true, or-false, implies-true, true-implies}
+use Rattle.integers.proofs.Booleans.{not-false, and-true, true-and, or-true, or-false, implies-true, true-implies, fails}
 use Rattle.integers.proofs.Below.{all-at, at-all, any-at, any-true, upto-at, at-upto}
 use Rattle.integers.proofs.Ints.{ints, eqZ-eq, le-of-test, test-of-le, within-true, true-within}
 use Rattle.integers.proofs.Machine.{within-test, within-pos, within-by, from-within}
 use Rattle.integers.proofs.Ranges.{nat-from}
 use Rattle.integers.proofs.Sets.{small-set, member-ge-1}
 use Rattle.sheet.specs.Layout.{axesMost, tableMost, dims, axes, boxes, rules, rowLen, shapeOf, offset, size, isOf, validBox, kind}
-use Rattle.sheet.specs.Layout.{isNonOverlap, isContainment, dimSet, rowSet, roomLow, roomHigh, namesDim, validEnds}
-use Rattle.sheet.specs.Layout.{validRule, rows, shapeSet, low, high, hasShape, validRow}
+use Rattle.sheet.specs.Layout.{isNonOverlap, isContainment, dimSet, rowSet, roomLow, roomHigh, clearance, namesDim, validClearance}
+use Rattle.sheet.specs.Layout.{validEnds, validRule, rows, shapeSet, low, high, hasShape, validRow}
 use Rattle.sheet.specs.Refusal.{_when_, _else_, badHead, badCounts, badBlockLength, badTableLength, badBox, badRule, badRow, refusal}
 use Rattle.sheet.specs.Accepted.{Count, Head, Block, Rows, Boxed, Table}
 
@@ -57,6 +57,9 @@ is-count n l e = let q = eqZ-eq e in record { from = omega ints; upto = omega in
 from-one : (n : ℕ) {z : ℤ} → within (pos 1) (pos n) z ≡ true → Within n z
 from-one n e = let w = within-true e in record { above = omega ints; below = omega ints }
 
+from-zero : (n m : ℕ) {z : ℤ} → n ≤ m → within (pos 0) (pos n) z ≡ true → Within m z
+from-zero n m l e = let w = within-true e in record { above = omega ints; below = omega ints }
+
 is-zero : (n : ℕ) {z : ℤ} → eqZ z (pos 0) ≡ true → Within n z
 is-zero n e = within-by (eqZ-eq e) (within-pos (omega arith))
 
@@ -87,17 +90,31 @@ module _ (block : List ℤ) where
   kind-count r e = ⊎-elim (λ x. is-count 1 (omega arith) x) (λ x. is-count 2 (omega arith) x) (or-true e)
 
   end-bounds : (r d : ℕ) → validEnds block r d ≡ true → Within 1000000 (roomLow block r d) × Within 1000000 (roomHigh block r d)
-  unfolding validEnds
-  end-bounds r d e = pick (isContainment block r && namesDim block r d) e
+  unfolding validEnds validClearance clearance
+  end-bounds r d e = pick (isContainment block r && namesDim block r d) (namesDim block r d) e
     where
-      pick : (b : Bool)
+      pick : (b n : Bool)
           → cond b
           (within (minus 1000000) (pos 1000000) (roomLow block r d) && within (minus 1000000) (pos 1000000) (roomHigh block r d)
           && leZ (roomLow block r d) (roomHigh block r d))
-          (eqZ (roomLow block r d) (pos 0) && eqZ (roomHigh block r d) (pos 0)) ≡ true
+          (cond n (validClearance block r d) (eqZ (roomLow block r d) (pos 0) && eqZ (roomHigh block r d) (pos 0))) ≡ true
           → Within 1000000 (roomLow block r d) × Within 1000000 (roomHigh block r d)
-      pick true u = let a = and-true u in let b = and-true (a .0) in (within-test (b .0), within-test (b .1))
-      pick false u = let a = and-true u in (is-zero 1000000 (a .0), is-zero 1000000 (a .1))
+      pick true n u = let a = and-true u in let b = and-true (a .0) in (within-test (b .0), within-test (b .1))
+      pick false true u = let a = and-true u in (from-zero 1000 1000000 (omega arith) (a .0), is-zero 1000000 (a .1))
+      pick false false u = let a = and-true u in (is-zero 1000000 (a .0), is-zero 1000000 (a .1))
+
+  one-kind : (r : ℕ) → isNonOverlap block r ≡ true → isContainment block r ≡ false
+  unfolding isNonOverlap isContainment
+  one-kind r e = fails (λ f. let a = eqZ-eq e in let b = eqZ-eq f in omega ints)
+
+  not-negative : (r d : ℕ) → isNonOverlap block r ≡ true → validEnds block r d ≡ true → pos 0 ≤ℤ clearance block r d
+  unfolding validEnds validClearance clearance
+  not-negative r d k e = pick (namesDim block r d) (rw (one-kind r k) at e)
+    where
+      pick : (n : Bool) → cond n (validClearance block r d) (eqZ (roomLow block r d) (pos 0) && eqZ (roomHigh block r d) (pos 0)) ≡ true
+          → pos 0 ≤ℤ roomLow block r d
+      pick true u = within-true {b = pos 1000} (and-true u .0) .0
+      pick false u = let z = eqZ-eq (and-true u .0) in omega ints
 
   -- ---- a row of the table
   record ValidRow (t : List ℤ) (i : ℕ) : Type 0 where
@@ -273,6 +290,7 @@ module _ (block : List ℤ) where
       accepted-rows = rows-by (passed accepted .table-length)
 
       pub accepted-block : Block block
+      unfolding clearance
       accepted-block =
           record {
             head = accepted-head;
@@ -287,6 +305,8 @@ module _ (block : List ℤ) where
             row-sets = λ r h. counted 1 _ (power (rows block t) 32 (accepted-rows .few-rows) (omega arith)) (rule-valid r h .row-set);
             room-lows = λ r d h l. end-bounds r d (rule-valid r h .ends d l) .0;
             room-highs = λ r d h l. end-bounds r d (rule-valid r h .ends d l) .1;
+            clearances = λ r d h l. end-bounds r d (rule-valid r h .ends d l) .0;
+            clearances-from = λ r d h l k. not-negative r d k (rule-valid r h .ends d l);
           }
 
       pub accepted-table : Table block t

@@ -2,6 +2,7 @@ pub mod Accepted
 pub mod Forbidden
 pub mod Coordinates
 pub mod Exchange
+pub mod Clearance
 pub mod Intervals
 pub mod Relation
 pub mod Fixed

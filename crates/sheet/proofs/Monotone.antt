@@ -9,7 +9,7 @@ use lib.Signed.{_≤ℤ_}
 use Rattle.integers.proofs.Booleans.{clash}
 use Rattle.integers.proofs.Ints.{ints, v, _⊕_, _⊖_, lin, ≤ℤ-trans}
 use Rattle.integers.proofs.Sets.{only-of, same-only}
-use Rattle.sheet.specs.Layout.{dims, offset, size, rows, shapeSet, low, high, hasShape, hasOnly}
+use Rattle.sheet.specs.Layout.{dims, offset, size, clearance, rows, shapeSet, low, high, hasShape, hasOnly}
 use Rattle.sheet.specs.Allowed.{inRanges, forbidFrom, forbidTo, pairForbids, setForbids, forbidden, allowed}
 use Rattle.sheet.specs.Settle.{Inside}
 use Rattle.sheet.proofs.Accepted.{rows-same}
@@ -40,8 +40,8 @@ module _ (block : List ℤ) (u t : List ℤ) (inside : Inside block u t)
       let q = inside .highs j d h k (axis block l) in
       omega (
         ints,
-        lin (v (high block u j d) ⊕ v (offset block c d) ⊖ v (offset block b d) ⊖ v (size block b d) ⊕ v (pos 1)),
-        lin (v (high block t j d) ⊕ v (offset block c d) ⊖ v (offset block b d) ⊖ v (size block b d) ⊕ v (pos 1)),
+        lin (v (high block u j d) ⊕ v (offset block c d) ⊖ v (offset block b d) ⊖ v (size block b d) ⊕ v (pos 1) ⊖ v (clearance block r d)),
+        lin (v (high block t j d) ⊕ v (offset block c d) ⊖ v (offset block b d) ⊖ v (size block b d) ⊕ v (pos 1) ⊖ v (clearance block r d)),
       )
 
   to-more : (r i b j c d : ℕ) → 1 ≤ j → j ≤ rows block t → d < dims block → forbidTo block t r i b j c d ≤ℤ forbidTo block u r i b j c d
@@ -50,8 +50,8 @@ module _ (block : List ℤ) (u t : List ℤ) (inside : Inside block u t)
       let q = inside .lows j d h k (axis block l) in
       omega (
         ints,
-        lin (v (low block t j d) ⊕ v (offset block c d) ⊕ v (size block c d) ⊖ v (offset block b d) ⊖ v (pos 1)),
-        lin (v (low block u j d) ⊕ v (offset block c d) ⊕ v (size block c d) ⊖ v (offset block b d) ⊖ v (pos 1)),
+        lin (v (low block t j d) ⊕ v (offset block c d) ⊕ v (size block c d) ⊖ v (offset block b d) ⊖ v (pos 1) ⊕ v (clearance block r d)),
+        lin (v (low block u j d) ⊕ v (offset block c d) ⊕ v (size block c d) ⊖ v (offset block b d) ⊖ v (pos 1) ⊕ v (clearance block r d)),
       )
 
   pairs : (r : ℕ) (p : List ℤ) (i b j c : ℕ) → 1 ≤ j → j ≤ rows block t → pairForbids block t r p i b j c ≡ true

@@ -11,7 +11,7 @@ use Rattle.integers.specs.Integer.{within}
 use Rattle.integers.specs.Below.{_⇒_, allBelow, anyBelow, anyUpTo}
 use Rattle.integers.specs.Words.{word}
 use Rattle.sheet.specs.Layout.{dims, boxes, rules, axes, offset, size, isOf, isNonOverlap, isContainment, roomLow}
-use Rattle.sheet.specs.Layout.{roomHigh, namesDim, namesRow, rows, low, high, hasOnly}
+use Rattle.sheet.specs.Layout.{roomHigh, clearance, namesDim, namesRow, rows, low, high, hasOnly}
 
 module _ (block : List ℤ) where
   -- ---- rooms (kind 2)
@@ -36,12 +36,12 @@ module _ (block : List ℤ) where
     -- ---- non-overlap (kind 1)
 
     -- the first and the last number that rule r, by box c of row j, forbids to row i with box b in dimension d:
-    -- max + t' − t − l + 1 and min + t' + l' − t − 1
+    -- max + t' − t − l + 1 − g and min + t' + l' − t − 1 + g, where g is the rule's clearance
     unfoldable pub forbidFrom : ℕ → ℕ → ℕ → ℕ → ℕ → ℕ → ℤ
-    forbidFrom r i b j c d = high block table j d +ℤ offset block c d -ℤ offset block b d -ℤ size block b d +ℤ pos 1
+    forbidFrom r i b j c d = high block table j d +ℤ offset block c d -ℤ offset block b d -ℤ size block b d +ℤ pos 1 -ℤ clearance block r d
 
     unfoldable pub forbidTo : ℕ → ℕ → ℕ → ℕ → ℕ → ℕ → ℤ
-    forbidTo r i b j c d = low block table j d +ℤ offset block c d +ℤ size block c d -ℤ offset block b d -ℤ pos 1
+    forbidTo r i b j c d = low block table j d +ℤ offset block c d +ℤ size block c d -ℤ offset block b d -ℤ pos 1 +ℤ clearance block r d
 
     -- the same pair of boxes in every dimension that rule r names
     unfoldable pub pairForbids : ℕ → List ℤ → ℕ → ℕ → ℕ → ℕ → Bool

@@ -108,11 +108,16 @@ module _ (block : List ℤ) where
   unfoldable pub rowSet : ℕ → ℤ
   rowSet r = blockWord (ruleAt r + 2)
 
+  -- the low and the high word of dimension d: of kind 2 the ends of the room
   unfoldable pub roomLow : ℕ → ℕ → ℤ
   roomLow r d = blockWord (ruleAt r + 3 + 2 * d)
 
   unfoldable pub roomHigh : ℕ → ℕ → ℤ
   roomHigh r d = blockWord (ruleAt r + 4 + 2 * d)
+
+  -- of kind 1 the low word is the clearance: how far from each other boxes stay
+  unfoldable pub clearance : ℕ → ℕ → ℤ
+  clearance r d = roomLow r d
 
   unfoldable pub namesDim : ℕ → ℕ → Bool
   namesDim r d = bit (dimSet r) d
@@ -120,14 +125,17 @@ module _ (block : List ℤ) where
   unfoldable pub namesRow : ℕ → ℕ → Bool
   namesRow r i = holds (rowSet r) i
 
-  -- the low and the high word of dimension d: a room where kind 2 names it, and else zeros
+  unfoldable pub validClearance : ℕ → ℕ → Bool
+  validClearance r d = within (pos 0) (pos 1000) (clearance r d) && eqZ (roomHigh r d) (pos 0)
+
+  -- the low and the high word of dimension d: a room where kind 2 names it, a clearance where kind 1 does, and else zeros
   unfoldable pub validEnds : ℕ → ℕ → Bool
   validEnds r d =
       cond (isContainment r && namesDim r d)
       (within (minus 1000000) (pos 1000000) (roomLow r d)
       && within (minus 1000000) (pos 1000000) (roomHigh r d)
       && leZ (roomLow r d) (roomHigh r d))
-      (eqZ (roomLow r d) (pos 0) && eqZ (roomHigh r d) (pos 0))
+      (cond (namesDim r d) (validClearance r d) (eqZ (roomLow r d) (pos 0) && eqZ (roomHigh r d) (pos 0)))
 
   -- in a sheet of n rows
   unfoldable pub validRule : ℕ → ℕ → Bool
@@ -175,6 +183,6 @@ module _ (block : List ℤ) where
 -- one name that opens every definition above: `unfolding layout`
 unfoldable pub layout : Unit {0}
 unfolding dims boxes rules axes boxLen ruleLen rowLen blockLen boxAt ruleAt rowAt shapeOf offset size isOf validBox kind
-    isNonOverlap isContainment dimSet rowSet roomLow roomHigh namesDim namesRow validEnds validRule rows shapeSet low high
-    hasShape hasOnly ofRow validRow
+    isNonOverlap isContainment dimSet rowSet roomLow roomHigh clearance namesDim namesRow validClearance validEnds
+    validRule rows shapeSet low high hasShape hasOnly ofRow validRow
 layout = tt

@@ -13,3 +13,4 @@ pub mod Computing
 pub mod Positions
 pub mod TextPositions
 pub mod RelationPositions
+pub mod ClearancePositions

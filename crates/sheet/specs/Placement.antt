@@ -10,8 +10,8 @@ use lib.Signed.{leZ}
 use Rattle.integers.specs.Integer.{eqZ}
 use Rattle.integers.specs.Below.{_⇒_, allBelow, anyBelow, allUpTo, anyUpTo}
 use Rattle.integers.specs.Words.{listBelow}
-use Rattle.sheet.specs.Layout.{dims, boxes, rules, axes, offset, size, isOf, isNonOverlap, namesDim, namesRow, rows}
-use Rattle.sheet.specs.Layout.{low, high, hasShape, hasOnly}
+use Rattle.sheet.specs.Layout.{dims, boxes, rules, axes, offset, size, isOf, isNonOverlap, clearance, namesDim, namesRow}
+use Rattle.sheet.specs.Layout.{rows, low, high, hasShape, hasOnly}
 use Rattle.sheet.specs.Allowed.{roomsHold, allowed}
 
 module _ (block : List ℤ) (table : List ℤ) where
@@ -39,9 +39,13 @@ module _ (block : List ℤ) (table : List ℤ) where
   unfoldable pub boxEnd : ℕ → ℕ → ℕ → ℤ
   boxEnd i b d = low block table i d +ℤ offset block b d +ℤ size block b d
 
-  -- under rule r, box b of row i and box c of row j are clear of each other in dimension d: one starts at or past the other's end
+  -- in dimension d, box b of row i starts at or past the end of box c of row j plus rule r's clearance
+  unfoldable pub isPast : ℕ → ℕ → ℕ → ℕ → ℕ → ℕ → Bool
+  isPast r i b j c d = leZ (boxEnd j c d +ℤ clearance block r d) (boxStart i b d)
+
+  -- the two boxes are clear of each other in dimension d: one is past the other
   unfoldable pub clear : ℕ → ℕ → ℕ → ℕ → ℕ → ℕ → Bool
-  clear r i b j c d = leZ (boxEnd j c d) (boxStart i b d) || leZ (boxEnd i b d) (boxStart j c d)
+  clear r i b j c d = isPast r i b j c d || isPast r j c i b d
 
   -- in some dimension that rule r names
   unfoldable pub boxesClear : ℕ → ℕ → ℕ → ℕ → ℕ → Bool
@@ -69,5 +73,5 @@ module _ (block : List ℤ) (table : List ℤ) where
 
 -- one name that opens every definition above: `unfolding placing`
 unfoldable pub placing : Unit {0}
-unfolding rowFixed fixed pointOf good boxStart boxEnd clear boxesClear noOverlap noneOverlap allContained catalogueGood
+unfolding rowFixed fixed pointOf good boxStart boxEnd isPast clear boxesClear noOverlap noneOverlap allContained catalogueGood
 placing = tt

@@ -157,7 +157,7 @@ catalogue =
 unfoldable pub placed : ℕ → ℕ → List ℤ
 placed x y = row2 1 1 1 2 2 ++ row2 16 2 2 1 1 ++ row2 128 x x y y
 
-abbrev case : List ℤ → List ℤ → Question → Case
+abbrev pub case : List ℤ → List ℤ → Question → Case
 case b t a = record { block = b; table = t; asked = a }
 
 -- ---- the positions

@@ -1,4 +1,5 @@
-// Document 01's "What is allowed" by definition, and narrowing and settling with every point tried. It shares no code with the kernel.
+// Document 01's "What is allowed" by definition, with document 02's clearances, and narrowing and settling with every point tried. It shares
+// no code with the kernel.
 use super::layout;
 use super::layout::RECORD;
 use super::layout::with_word;
@@ -58,10 +59,11 @@ pub(crate) fn shape_inside(block: &[i64], r: usize, s: usize, p: [i64; 4]) -> bo
     b == n
 }
 
-// Whether box c of row j forbids box b the coordinate x: from max + t' − t − l + 1 to min + t' + l' − t − 1 it does.
+// Whether box c of row j forbids box b the coordinate x: from max + t' − t − l + 1 − g to min + t' + l' − t − 1 + g it does.
 fn forbidden_in(
     block: &[i64],
     table: &[i64],
+    r: usize,
     b: usize,
     j: usize,
     c: usize,
@@ -72,11 +74,12 @@ fn forbidden_in(
     let l = layout::size(block, b, d);
     let t2 = layout::offset(block, c, d);
     let l2 = layout::size(block, c, d);
+    let g = layout::clearance(block, r, d);
     let most = sum(layout::high(block, table, j, d), t2);
     let least = sum(layout::low(block, table, j, d), t2);
     let first = sum(difference(difference(most, t), l), 1);
     let last = difference(difference(sum(least, l2), t), 1);
-    first <= x && x <= last
+    difference(first, g) <= x && x <= sum(last, g)
 }
 
 // Whether a pair of boxes allows a point: it does unless it forbids it in every named dimension.
@@ -93,7 +96,7 @@ fn pair_allows(
     let mut d = 0;
     while d < k
         && (!layout::names_dim(block, r, d)
-            || forbidden_in(block, table, b, j, c, d, coordinate(p, d)))
+            || forbidden_in(block, table, r, b, j, c, d, coordinate(p, d)))
     {
         d = d + 1;
     }

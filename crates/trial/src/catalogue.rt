@@ -1,15 +1,25 @@
-// Whether a fixed placement is good: room rules by document 01, non-overlap by the catalogue (document 003). It shares no code with the
-// kernel, and what document 01 says of forbidden points is not used.
+// Whether a fixed placement is good: room rules by document 01, non-overlap by the catalogue (document 003), with document 02's clearances.
+// It shares no code with the kernel, and what document 01 says of forbidden points is not used.
 use super::brute;
 use super::brute::last_shape;
 use super::layout;
 use super::numbers::sum;
 
-// Whether in dimension d box b of row i starts at or past the end of box c of row j.
-fn is_past(block: &[i64], table: &[i64], i: usize, b: usize, j: usize, c: usize, d: usize) -> bool {
+// Whether in dimension d box b of row i starts at or past the end of box c of row j plus the rule's clearance.
+fn is_past(
+    block: &[i64],
+    table: &[i64],
+    r: usize,
+    i: usize,
+    b: usize,
+    j: usize,
+    c: usize,
+    d: usize,
+) -> bool {
     let start = sum(layout::low(block, table, i, d), layout::offset(block, b, d));
     let other = sum(layout::low(block, table, j, d), layout::offset(block, c, d));
-    start >= sum(other, layout::size(block, c, d))
+    let end = sum(other, layout::size(block, c, d));
+    start >= sum(end, layout::clearance(block, r, d))
 }
 
 // Whether dimension d is named and parts the two boxes.
@@ -24,7 +34,7 @@ fn parts(
     d: usize,
 ) -> bool {
     layout::names_dim(block, r, d)
-        && (is_past(block, table, i, b, j, c, d) || is_past(block, table, j, c, i, b, d))
+        && (is_past(block, table, r, i, b, j, c, d) || is_past(block, table, r, j, c, i, b, d))
 }
 
 // Whether some dimension parts the two boxes.

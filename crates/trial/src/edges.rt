@@ -88,6 +88,7 @@ pub(crate) fn plan(m: usize) -> Plan {
         extents: plan::extents(k, field(m, 4), 1, field(m, 5), 1),
         ranges: plan::ranges(1, low, 1, difference(field(m, 7), low), 1),
         rooms: plan::ranges(3, room, 1, difference(field(m, 9), room), 1),
+        clearances: plan::clearances(1),
     }
 }
 

@@ -108,15 +108,17 @@ fn box_record(seed: &mut usize, p: Plan, b: usize) -> [i64; RECORD] {
     with_pairs(seed, record(shape, 0, 0), s, p.k, EVERY)
 }
 
-// A rule by chance, every third time with a room.
+// A rule by chance: with a room, with clearances, or with neither, so that of rules over the same rows one often has more clearance.
 fn some_rule(seed: &mut usize, p: Plan) -> [i64; RECORD] {
-    let s = p.rooms;
+    let rooms = p.rooms;
+    let clearances = p.clearances;
     let dims = from(seed, 1, all(p.k));
     let rows = some_set(seed, p.rows);
-    if one_of(seed, 3) {
-        return with_pairs(seed, record(2, dims, rows), s, p.k, dims);
+    match below(seed, 3) {
+        0 => with_pairs(seed, record(2, dims, rows), rooms, p.k, dims),
+        1 => with_pairs(seed, record(1, dims, rows), clearances, p.k, dims),
+        _ => record(1, dims, rows),
     }
-    record(1, dims, rows)
 }
 
 // The twentieth rule leaves out the first dimension, so that it forbids more than the others: a list that drops what it has no room for is
@@ -126,13 +128,11 @@ fn left_out(r: usize) -> i64 {
 }
 
 // No two rows but row r + 1 overlap: of rules that leave out different rows none covers another.
-fn rule_without(r: usize, k: usize, rows: usize) -> [i64; RECORD] {
-    let dims = numbers::difference(numbers::word_of(all(k)), left_out(r));
-    record(
-        1,
-        dims,
-        numbers::difference(numbers::word_of(all(rows)), numbers::set_of(r)),
-    )
+fn rule_without(seed: &mut usize, p: Plan, r: usize) -> [i64; RECORD] {
+    let s = p.clearances;
+    let dims = numbers::difference(numbers::word_of(all(p.k)), left_out(r));
+    let rows = numbers::difference(numbers::word_of(all(p.rows)), numbers::set_of(r));
+    with_pairs(seed, record(1, dims, rows), s, p.k, dims)
 }
 
 // Rule r of a plan. A position's rules have a room and name dimension 0 and row 1.
@@ -144,7 +144,7 @@ fn rule_record(seed: &mut usize, p: Plan, r: usize) -> [i64; RECORD] {
     if p.kind == plan::POSITION {
         return with_pairs(seed, record(2, 1, 1), s, p.k, 1);
     }
-    rule_without(r, p.k, p.rows)
+    rule_without(seed, p, r)
 }
 
 // A row's shape set: mostly one shape, so that the row forbids.
@@ -245,7 +245,7 @@ pub(crate) fn sheet(seed: &mut usize, words: &mut [i64], kind: usize, m: usize) 
 // ---- sheets to be refused
 
 // Words at or past the end of some range.
-const ODD: [i64; 20] = [
+const ODD: [i64; 22] = [
     0,
     1,
     -1,
@@ -255,6 +255,8 @@ const ODD: [i64; 20] = [
     32,
     33,
     129,
+    1000,
+    1001,
     10000,
     10001,
     -10000,
@@ -271,7 +273,7 @@ const ODD: [i64; 20] = [
 // Makes one of n words from `first` on odd.
 fn spoil(seed: &mut usize, words: &mut [i64], first: usize, n: usize) {
     let i = plus(first, below(seed, n));
-    put(words, i, numbers::at(&ODD, below(seed, 20)));
+    put(words, i, numbers::at(&ODD, below(seed, 22)));
 }
 
 // A length that is one more or one less.

@@ -86,6 +86,11 @@ pub(crate) fn names_row(block: &[i64], r: usize, i: usize) -> bool {
     has(row_set(block, r), i)
 }
 
+// Of a rule that keeps rows apart, the clearance stands where the low end of a room would.
+pub(crate) fn clearance(block: &[i64], r: usize, d: usize) -> i64 {
+    room_low(block, r, d)
+}
+
 pub(crate) fn room_low(block: &[i64], r: usize, d: usize) -> i64 {
     rule_word(block, r, place(3, 2, d))
 }

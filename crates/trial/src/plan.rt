@@ -38,6 +38,7 @@ pub struct Plan {
     pub extents: Pairs, // the offsets and sizes of a box
     pub ranges: Pairs, // of a row
     pub rooms: Pairs, // of a rule
+    pub clearances: Pairs, // of a rule
 }
 
 // Offsets, each one of n words, and sizes.
@@ -70,6 +71,13 @@ pub(crate) fn ranges(at: usize, first: i64, n: usize, then: i64, more: usize) ->
     }
 }
 
+// Clearances, each one of n words from 0 on, and zeros.
+pub(crate) fn clearances(n: usize) -> Pairs {
+    let mut s = ranges(3, 0, n, 0, 1);
+    s.is_range = false;
+    s
+}
+
 // ---- small sheets
 
 // Where the ranges start: around 0, or at an end of what a range may hold.
@@ -82,7 +90,7 @@ fn some_base(seed: &mut usize) -> i64 {
 }
 
 // A small sheet: k from 1 to 4, one to four rows, one to three shapes, up to nine boxes, up to three rules of both kinds, with rooms around
-// the ranges.
+// the ranges and clearances of 0 to 3.
 fn small(seed: &mut usize) -> Plan {
     let k = plus(1, below(seed, 4));
     let rows = numbers::at_most(plus(1, below(seed, 5)), 4);
@@ -102,6 +110,7 @@ fn small(seed: &mut usize) -> Plan {
         extents: extents(k, -2, 5, 1, 3),
         ranges: ranges(1, base, 3, 0, 1),
         rooms,
+        clearances: clearances(4),
     }
 }
 
@@ -120,8 +129,8 @@ fn counts(m: usize) -> [usize; 3] {
 }
 
 // A larger sheet: in three or four dimensions, small boxes of one outline, far enough apart that those of two rows often pass each other,
-// and ranges of one or two numbers. So it has what small sheets cannot fill, the kernel's suspects, with room to spare and full, and both
-// lengths of them.
+// ranges of one or two numbers, and every second time clearances of 0 or 1. So it has what small sheets cannot fill, the kernel's suspects,
+// with room to spare and full, and both lengths of them.
 fn larger(seed: &mut usize, m: usize) -> Plan {
     let k = plus(3, below(seed, 2));
     let n = counts(m);
@@ -136,6 +145,7 @@ fn larger(seed: &mut usize, m: usize) -> Plan {
         extents: extents(k, -8, 17, 1, 2),
         ranges: r,
         rooms: r,
+        clearances: clearances(plus(1, below(seed, 2))),
     }
 }
 

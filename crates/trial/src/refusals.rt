@@ -1,4 +1,5 @@
-// Document 01's grounds for turning a sheet away, 2 to 12, as the paper lists them. It shares no code with the kernel.
+// Document 01's grounds for turning a sheet away, 2 to 12, as the paper lists them, with document 02's limits of a clearance. It shares no
+// code with the kernel.
 use super::brute;
 use super::layout;
 use super::numbers;
@@ -32,14 +33,17 @@ fn boxes_hold(block: &[i64]) -> bool {
     b == n
 }
 
-// Whether a rule's ends are those of a room, or 0 where there is no room.
+// Whether a rule's two words of a dimension are the ends of a room, or a clearance and 0; where the dimension is not named both are 0.
 fn room_holds(block: &[i64], r: usize, d: usize) -> bool {
     let low = layout::room_low(block, r, d);
     let high = layout::room_high(block, r, d);
-    if layout::kind(block, r) == 2 && layout::names_dim(block, r, d) {
+    if !layout::names_dim(block, r, d) {
+        return low == 0 && high == 0;
+    }
+    if layout::kind(block, r) == 2 {
         return range_holds(low, high);
     }
-    low == 0 && high == 0
+    numbers::is_within(layout::clearance(block, r, d), 0, 1000) && high == 0
 }
 
 fn rooms_hold(block: &[i64], r: usize) -> bool {

@@ -12,7 +12,7 @@ ghost use Rattle.integers.specs.Below.{UpTo};
 ghost use Rattle.integers.specs.Bits.{bit};
 ghost use Rattle.integers.specs.Words.{word};
 ghost use Rattle.sheet.specs.Layout.{dims, axes, boxes, rules, shapeOf, offset, size};
-ghost use Rattle.sheet.specs.Layout.{kind, isNonOverlap, isContainment, dimSet, rowSet, namesDim, namesRow, roomLow, roomHigh};
+ghost use Rattle.sheet.specs.Layout.{kind, isNonOverlap, isContainment, dimSet, rowSet, namesDim, namesRow, roomLow, roomHigh, clearance};
 ghost use Rattle.sheet.specs.Layout.{rowLen, rows, shapeSet, hasShape, low, high};
 ghost use Rattle.sheet.specs.Accepted.{Count, Head, Rows};
 ghost use Rattle.words.specs.Places.{BoxPlace, RulePlace, RowPlace};
@@ -267,6 +267,13 @@ pub fn room_high(block: &[i64], r: Place, d: usize) -> i64
 {
     let at = r.at;
     word_at(block, at + 4 + 2 * d)
+}
+
+pub fn clearance_of(block: &[i64], r: Place, d: usize) -> i64
+    requires { ⌜ RulePlace (now block) r × (d < dims (now block)) ⌝ }
+    ensures { λ x. ⌜ x ≡ clearance (now (block .entry)) (r .number) d ⌝ }
+{
+    room_low(block, r, d)
 }
 
 // ---- the table

@@ -25,34 +25,41 @@ sub-back-from-end c = diff-fits (num 0) (bnd (c .before .before .pre .own-end)) 
 sub-back-from-start : tie.Need-sub-back-from-start
 sub-back-from-start c = diff-fits (num 0) (bnd (c .before .before .before .before .pre .own-start)) tt
 
-add-t7 : tie.Need-add-t7
-add-t7 c = let s = c .before .before .before .before .before .before in sum-fits (bnd (s .pre .highest)) (bnd (s .pre .other-start)) tt
-
 add-t8 : tie.Need-add-t8
-add-t8 c = let s = c .before .before .before .before .before .before in sum-fits (first s) (back-from-end s) tt
+add-t8 c = let s = c .before .before .before .before .before .before in sum-fits (bnd (s .pre .highest)) (bnd (s .pre .other-start)) tt
 
 add-t9 : tie.Need-add-t9
-add-t9 c = let s = c .before .before .before .before .before .before in search (add-literal-fits (first s +ʷ back-from-end s))
+add-t9 c = let s = c .before .before .before .before .before .before in sum-fits (first s) (back-from-end s) tt
+
+add-t10 : tie.Need-add-t10
+add-t10 c = let s = c .before .before .before .before .before .before in search (add-literal-fits (first s +ʷ back-from-end s))
 
 -- the places of the second sum
 abbrev top : tie.After-struct-told4 → tie.Start
 top c = c .before .before .before .before .before .before .before .before
 
-add-t10 : tie.Need-add-t10
-add-t10 c = sum-fits (bnd (top c .pre .lowest)) (bnd (top c .pre .other-end)) tt
+sub-t11 : tie.Need-sub-t11
+sub-t11 c = let s = c .before .before .before .before .before .before in
+    diff-fits (first s +ʷ back-from-end s +ʷ num 1) (bnd (s .pre .clearance)) tt
 
-add-t11 : tie.Need-add-t11
-add-t11 c = sum-fits (last (top c)) (back-from-start (top c)) tt
+add-t12 : tie.Need-add-t12
+add-t12 c = sum-fits (bnd (top c .pre .lowest)) (bnd (top c .pre .other-end)) tt
 
-sub-t12 : tie.Need-sub-t12
-sub-t12 c = diff-fits (last (top c) +ʷ back-from-start (top c)) (num 1) tt
+add-t13 : tie.Need-add-t13
+add-t13 c = sum-fits (last (top c)) (back-from-start (top c)) tt
+
+sub-t14 : tie.Need-sub-t14
+sub-t14 c = diff-fits (last (top c) +ʷ back-from-start (top c)) (num 1) tt
+
+add-t15 : tie.Need-add-t15
+add-t15 c = sum-fits (last (top c) +ʷ back-from-start (top c) -ʷ num 1) (bnd (top c .pre .clearance)) tt
 
 returns : tie.Need-returns
 returns c =
     let a = top c .args in
-    let f = sum-is (first (top c) +ʷ back-from-end (top c) +ʷ num 1) tt (first-sum (a .own) (a .other) (a .high)) in
-    let l = sum-is (last (top c) +ʷ back-from-start (top c) -ʷ num 1) tt (last-sum (a .own) (a .other) (a .low)) in
+    let f = sum-is (first (top c) +ʷ back-from-end (top c) +ʷ num 1 -ʷ bnd (top c .pre .clearance)) tt (first-sum (a .own) (a .other) (a .high) (a .clearance)) in
+    let l = sum-is (last (top c) +ʷ back-from-start (top c) -ʷ num 1 +ʷ bnd (top c .pre .clearance)) tt (last-sum (a .own) (a .other) (a .low) (a .clearance)) in
     (f .0, l .0, f .1, l .1)
 
 pub overlapping-spec : {M : Type 1} → statement M
-overlapping-spec = tie.close (tie.spec sub-back-from-end sub-back-from-start add-t7 add-t8 add-t9 add-t10 add-t11 sub-t12 returns)
+overlapping-spec = tie.close (tie.spec sub-back-from-end sub-back-from-start add-t8 add-t9 add-t10 sub-t11 add-t12 add-t13 sub-t14 add-t15 returns)

@@ -27,9 +27,13 @@ high-of-requires c κs =
     let w = s .pre .0 in
     (w .other-row, axis (now (s .args .block)) (s .pre .1))
 
+clearance-of-requires : tie.Need-clearance-of-requires
+clearance-of-requires c κs = let s = c .before .before .before .before .before .before in (s .pre .0 .rule, s .pre .1)
+
 overlapping-requires : tie.Need-overlapping-requires
 overlapping-requires c κs =
-    let l = c .before in
+    let t = c .before .before in
+    let l = t .before in
     let other = l .before in
     let own = other .before in
     let s = own .before .before in
@@ -38,7 +42,8 @@ overlapping-requires c κs =
     let h = s .pre .1 in
     let d = axis (now (s .args .block)) h in
     let low = within-by (bits-back (l .low-of .ok) ∙ l .low-of .ensures) (w .table .lows _ _ (j .from) (j .upto) d) in
-    let high = within-by (bits-back (c .high-of .ok) ∙ c .high-of .ensures) (w .table .highs _ _ (j .from) (j .upto) d) in
+    let high = within-by (bits-back (t .high-of .ok) ∙ t .high-of .ensures) (w .table .highs _ _ (j .from) (j .upto) d) in
+    let near = within-by (bits-back (c .clearance-of .ok) ∙ c .clearance-of .ensures) (w .accepted .clearances _ _ (w .rule .below) h) in
     record {
       own-start = within-by (own .extent-of .ensures .0) (w .own .starts _ h);
       own-end = within-by (own .extent-of .ensures .1) (w .own .ends _ h);
@@ -46,19 +51,21 @@ overlapping-requires c κs =
       other-end = within-by (other .extent-of2 .ensures .1) (w .other .ends _ h);
       lowest = search;
       highest = search;
+      clearance = search;
     }
 
 returns : tie.Need-returns
 unfolding forbidFirst forbidLast
 returns c =
-    let h = c .before in
+    let g = c .before in
+    let h = g .before .before in
     let l = h .before in
     let other = l .before in
     let own = other .before in
     let e = c .overlapping .ensures in
     record {
-      from = e .0 ∙ rw (bits-back (h .high-of .ok), h .high-of .ensures, own .extent-of .ensures .1, other .extent-of2 .ensures .0);
-      to = e .1 ∙ rw (bits-back (l .low-of .ok), l .low-of .ensures, own .extent-of .ensures .0, other .extent-of2 .ensures .1);
+      from = e .0 ∙ rw (bits-back (h .high-of .ok), h .high-of .ensures, bits-back (g .clearance-of .ok), g .clearance-of .ensures, own .extent-of .ensures .1, other .extent-of2 .ensures .0);
+      to = e .1 ∙ rw (bits-back (l .low-of .ok), l .low-of .ensures, bits-back (g .clearance-of .ok), g .clearance-of .ensures, own .extent-of .ensures .0, other .extent-of2 .ensures .1);
       from-within = e .2;
       to-within = e .3;
     }
@@ -66,4 +73,4 @@ returns c =
 pub interval-of-spec : {M : Type 1} → statement M
 interval-of-spec =
     tie.close
-    (tie.spec extent-of-requires extent-of-requires-2 low-of-requires high-of-requires overlapping-requires returns)
+    (tie.spec extent-of-requires extent-of-requires-2 low-of-requires high-of-requires clearance-of-requires overlapping-requires returns)

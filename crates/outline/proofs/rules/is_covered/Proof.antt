@@ -7,16 +7,16 @@ use Rattle.outline.proofs.rules.is_covered.Statement.{statement}
 use Rattle.outline.proofs.rules.is_covered.Tie as tie
 
 abbrev Inv-loop : tie.InvT-loop
-Inv-loop block set n rows dims q₀ q = q ≤ n
+Inv-loop block set n r rows dims q₀ q = q ≤ n
 
 abbrev μ-loop : tie.MeasureT-loop
-μ-loop block set n rows dims q₀ q = n - q
+μ-loop block set n r rows dims q₀ q = n - q
 
 loop-holds : tie.Need-loop-holds Inv-loop μ-loop
 loop-holds c = omega arith
 
 covers-requires : tie.Need-covers-requires Inv-loop μ-loop
-covers-requires c κs = let s = c .before .before in (s .pre .0, omega (arith, s .pre .1, c .loop-test .taken))
+covers-requires c κs = let s = c .before .before in (s .pre .0, omega (arith, s .pre .1, c .loop-test .taken), s .pre .2)
 
 returns : tie.Need-returns Inv-loop μ-loop
 returns c = λ e.

@@ -34,7 +34,10 @@ dim-set-requires : tie.Need-dim-set-requires
 dim-set-requires c κs = let p = c .before .before .before in (p .before .pre .0, p .rule-place .ensures .0)
 
 is-covered-requires : tie.Need-is-covered-requires
-is-covered-requires c κs = let s = c .before .before .before .before .before in (s .pre .0, omega (arith, s .pre .1))
+is-covered-requires c κs =
+    let p = c .before .before .before .before in
+    let s = p .before in
+    (s .pre .0, omega (arith, s .pre .1), p .rule-place .ensures .0)
 
 returns-2 : tie.Need-returns-2
 returns-2 c =
@@ -47,8 +50,9 @@ returns-2 c =
     let rows : r .row-set .result ≡ nat (rowSet block (s .args .r)) = r .row-set .ensures ∙ ap (λ (q : ℕ). nat (rowSet block q)) at in
     let dims : d .dim-set .result ≡ nat (dimSet block (s .args .r)) = d .dim-set .ensures ∙ ap (λ (q : ℕ). nat (dimSet block q)) at in
     let x = c .before .is-covered .ensures (c .if2 .taken) in
-    let y = subst (λ (n : ℕ). CoveredBy block (s .args .set) n (d .dim-set .result)) rows x in
-    counted-same (s .pre .2) (subst (λ (n : ℕ). CoveredBy block (s .args .set) (nat (rowSet block (s .args .r))) n) dims y)
+    let w = subst (λ (q : ℕ). CoveredBy block (s .args .set) q (r .row-set .result) (d .dim-set .result)) at x in
+    let y = subst (λ (n : ℕ). CoveredBy block (s .args .set) (s .args .r) n (d .dim-set .result)) rows w in
+    counted-same (s .pre .2) (subst (λ (n : ℕ). CoveredBy block (s .args .set) (s .args .r) (nat (rowSet block (s .args .r))) n) dims y)
 
 with-member-requires : tie.Need-with-member-requires
 with-member-requires c κs =

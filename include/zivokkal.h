@@ -13,9 +13,11 @@
 
    A shape is all boxes with its number; they may overlap. In a dimension set bit d stands for dimension
    d, in a row set bit i - 1 for row i; neither is empty, and bits past k and past n are 0.
-   Kind 1: no two of the named rows overlap, the test being made in the named dimensions only; all low
-   and high words are 0. Kind 2: each named row lies from low to high in each named dimension, -1,000,000
-   to 1,000,000, low <= high; the words of the other dimensions are 0.
+   Kind 1: no two of the named rows overlap, the test being made in the named dimensions only. The low
+   word of a named dimension is its clearance, 0 to 1,000, the high word 0. A box of one row and a box of
+   another are clear of each other when in some named dimension one of them starts at or past the other's
+   end plus the clearance. Kind 2: each named row lies from low to high in each named dimension,
+   -1,000,000 to 1,000,000, low <= high. In both kinds the words of the other dimensions are 0.
    Its length is 3 + B(1 + 2k) + R(3 + 2k) words, at most ZK_BLOCK_WORDS.
 
    The table: the rows to place
@@ -29,9 +31,9 @@
 
    Allowed: a row, with a shape, is allowed at a point when the point lies in the row's ranges, every
    kind 2 rule that names the row holds there, and no kind 1 rule that names it forbids the point. One
-   does when a box of the row, there, would overlap one and the same box of another named row wherever in
-   its ranges that row ends up. A row with several open shapes forbids nothing. Boxes that touch do not
-   overlap.
+   does when a box of the row, there, would not be clear of one and the same box of another named row
+   wherever in its ranges that row ends up. A row with several open shapes forbids nothing. With a
+   clearance of 0, boxes that touch are clear.
 
    Findings
 

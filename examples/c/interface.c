@@ -108,6 +108,9 @@ static void refusals(void)
     refused_block("offset -10001", 6, 4, -10001);
     refused_block("kind 3", 7, 9, 3);
     refused_block("row 3 named", 7, 11, 4);
+    refused_block("clearance 1001", 7, 12, 1001);
+    refused_block("clearance -1", 7, 12, -1);
+    refused_block("high word 1", 7, 13, 1);
     refused_table("low past high", 8, 4, 6);
     refused_table("shape without a box", 8, 3, 4);
 }
@@ -192,6 +195,24 @@ static void changes(void)
     settles("size 2 or 1", sizes, MOST, either, 0, smaller);
 }
 
+/* A and B keep one unit apart, and 1,000. */
+static void clearances(void)
+{
+    static const int64_t unit[BLOCK] = {1, 2, 1,  1, 0, 3,  2, 0, 2,  1, 1, 3, 1, 0};
+    static const int64_t most[BLOCK] = {1, 2, 1,  1, 0, 3,  2, 0, 2,  1, 1, 3, 1000, 0};
+    static const int64_t before[TABLE] = {1, 0, 0,  2, -3, 5};
+    static const int64_t past[TABLE] = {1, 0, 0,  2, 4, 5};
+    static const int64_t at4[TABLE] = {1, 0, 0,  2, 4, 4};
+    static const int64_t at1003[TABLE] = {1, 0, 0,  2, 1003, 1003};
+    same_bound("one unit before A", 0, -3, zk_least(unit, BLOCK, before, TABLE, 2, 2, 0));
+    same_bound("one unit past A", 0, 4, zk_least(unit, BLOCK, wide, TABLE, 2, 2, 0));
+    same("touching is too near", -1, zk_check_placement(unit, BLOCK, touching, TABLE));
+    same("one unit apart", 0, zk_check_placement(unit, BLOCK, at4, TABLE));
+    settles("settled past the clearance", unit, BLOCK, wide, 0, past);
+    same("1,000 is accepted", 0, zk_check_placement(most, BLOCK, at1003, TABLE));
+    same("and too much here", -1, zk_check_placement(most, BLOCK, at4, TABLE));
+}
+
 /* The first row, of size 4, is at x and the second, of size 2, at 0: what the first bears to the second, and
    the second to the first. */
 static void stands(int64_t x, int64_t relation, int64_t converse)
@@ -241,6 +262,7 @@ int main(void)
     points();
     bounds();
     changes();
+    clearances();
     relations();
     printf("%d comparisons, %d differ\n", compared, differ);
     return differ ? 1 : 0;

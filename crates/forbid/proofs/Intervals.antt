@@ -11,7 +11,7 @@ use mir.Syntax.{w64}
 use mir.Val.{SFits, toZ}
 use Rattle.integers.specs.Integer.{within}
 use Rattle.integers.proofs.Ints.{ints, lin, v, _⊕_, _⊖_, within-true, true-within}
-use Rattle.integers.proofs.Machine.{Expr, sizeOf, bitsOf, num, sum-fits}
+use Rattle.integers.proofs.Machine.{Expr, sizeOf, bitsOf, num, _+ʷ_, sum-fits, diff-fits}
 use Rattle.sheet.specs.Layout.{dims, offset, size, clearance, low, high}
 use Rattle.sheet.specs.Allowed.{forbidFrom, forbidTo}
 use Rattle.outline.specs.declared.solid.Extent.{Extent}
@@ -19,7 +19,7 @@ use Rattle.outline.specs.Solids.{IsBox}
 use Rattle.forbid.specs.Interval.{forbidFirst, forbidLast}
 use Rattle.forbid.specs.Pair.{extentOf}
 
--- ---- the sums: a negated bound that is added is taken away, and a literal that is added fits, whichever it is
+-- ---- the sums: a negated bound that is added is taken away, and a literal that is added fits, whichever it is, and what is then taken away
 module _ (own other : Extent) where
   pub first-sum : (high g : ℤ) → high +ℤ other .start +ℤ (pos 0 -ℤ own .end) +ℤ pos 1 -ℤ g ≡ forbidFirst own other high g
   unfolding forbidFirst
@@ -39,6 +39,10 @@ module _ (own other : Extent) where
 
 pub add-literal-fits : (x : Expr) (k : ℕ) → T (ltb (sizeOf x + k) (2 ^ 63)) → SFits w64 (toZ w64 (bitsOf x) +ℤ toZ w64 k)
 add-literal-fits x k t = sum-fits x (num k) t
+
+pub literal-less-fits : (x y : Expr) (k : ℕ) → T (ltb (sizeOf x + k + sizeOf y) (2 ^ 63))
+    → SFits w64 (toZ w64 (bitsOf (x +ʷ num k)) -ℤ toZ w64 (bitsOf y))
+literal-less-fits x y k t = diff-fits (x +ʷ num k) y t
 
 -- ---- wider extents, a wider interval
 pub interval-wider : (own own' other other' : Extent) (low high g z : ℤ) → own' .start ≤ℤ own .start → own .end ≤ℤ own' .end

@@ -1,19 +1,21 @@
 -- One solid of a row against one solid of another: what the code for a pair requires and promises. Assumes nothing.
 use mathlib.Core.Path.{_≡_}
-use mathlib.Core.Bool.{Bool}
+use mathlib.Core.Bool.{Bool, true, false}
 use mathlib.Core.List.{List}
 use Prim.Native.Nat.{ℕ, _<_}
 use lib.IntN.{ℤ}
 use Rattle.integers.specs.Integer.{within, Within}
 use Rattle.integers.specs.Below.{_⇒_, allBelow}
 use Rattle.integers.specs.Words.{word}
-use Rattle.sheet.specs.Layout.{dims, low, high, clearance, namesDim}
+use Rattle.sheet.specs.Layout.{dims, axes, low, high, clearance, namesDim}
+use Rattle.sheet.specs.Allowed.{inRanges}
 use Rattle.sheet.specs.Accepted.{Block, Table}
 use Rattle.words.specs.Places.{RulePlace, RowPlace}
-use Rattle.points.specs.Area.{reach}
+use Rattle.points.specs.Area.{reach, Cuts, fieldArea}
 use Rattle.outline.specs.declared.solid.Extent.{Extent}
 use Rattle.outline.specs.Places.{solids, startOf, endOf}
 use Rattle.outline.specs.Solids.{Modest}
+use Rattle.forbid.specs.declared.Region.{Region}
 use Rattle.forbid.specs.declared.pair.Pair.{Pair}
 use Rattle.forbid.specs.declared.interval.Interval.{Interval}
 use Rattle.forbid.specs.Interval.{forbidFirst, forbidLast}
@@ -46,6 +48,11 @@ module _ (block t o : List ℤ) (x : Pair) where
 
   unfoldable pub solidsForbid : List ℤ → Bool
   solidsForbid p = allBelow (dims block) (λ d. sideForbids d (word p d))
+
+  -- y tells the points that the pair forbids, or that it forbids none of row i's ranges
+  pub record Meets (i : ℕ) (y : Region) : Type 0 where
+    pub clear : y .hit ≡ false → (p : List ℤ) → inRanges block t i p ≡ true → solidsForbid p ≡ true → ⊥
+    pub area : y .hit ≡ true → Cuts (axes block) fieldArea (y .area) solidsForbid
 
   pub record IsInterval (d : ℕ) (y : Interval) : Type 0 where
     pub from : y .from ≡ fromOf d

@@ -1,16 +1,15 @@
 // One solid of a row against one solid of another: what the pair forbids by a rule. Solids are boxes, and hulls that stand for all boxes of
 // a shape.
 ghost use mathlib.Core.Path.{_≡_};
-ghost use mathlib.Core.Bool.{true, false};
-ghost use mathlib.Core.List.{List};
+ghost use mathlib.Core.Bool.{true};
 ghost use Prim.Native.Nat.{_<_};
 ghost use lib.IntN.{ℤ};
 ghost use Rattle.integers.specs.Integer.{within};
-ghost use Rattle.sheet.specs.Layout.{dims, axes, low, high};
-ghost use Rattle.sheet.specs.Allowed.{inRanges};
+ghost use Rattle.sheet.specs.Layout.{dims, axes};
 ghost use Rattle.words.specs.Places.{RowPlace};
 ghost use Rattle.points.specs.Area.{Cuts, fieldArea};
-ghost use Rattle.forbid.specs.Pair.{PairPlaces, IsInterval, sideForbids, solidsForbid};
+ghost use Rattle.forbid.specs.Pair.{PairPlaces, Meets, IsInterval, sideForbids, solidsForbid};
+use crate::Region;
 use crate::interval;
 use crate::interval::Interval;
 use outline::OUTLINE;
@@ -69,7 +68,8 @@ fn side_forbids(
     words::is_within(x, interval.from, interval.to)
 }
 
-// Whether the pair forbids p: in every dimension that the rule names, and no further than the first that clears it.
+// Whether the pair forbids p: in every dimension that the rule names, and no further than the first that clears it. The loop's bound is a
+// constant: unrolled, it keeps p in registers.
 pub(crate) fn pair_forbids(
     block: &[i64],
     table: &[i64],
@@ -82,7 +82,10 @@ pub(crate) fn pair_forbids(
 {
     let k = words::dims_of(block);
     let mut d = 0;
-    while d < k {
+    while d < COORDINATES {
+        if d == k {
+            return true;
+        }
         if !side_forbids(block, table, outline, pair, d, p[d]) {
             return false;
         }
@@ -95,64 +98,55 @@ pub(crate) fn pair_forbids(
 fn is_apart(from: i64, to: i64, low: i64, high: i64) -> bool
     ensures { λ r. ⌜ (r ≡ true → (z : ℤ) → within from to z ≡ true → within low high z ≡ true → ⊥) ⌝ }
 {
+    if to < from {
+        return true;
+    }
     if to < low {
         return true;
     }
-    if high < from {
-        return true;
-    }
-    to < from
+    high < from
 }
 
-// Whether the pair may forbid row i a number of its range in dimension d: so it may where the rule does not name d.
-fn side_meets(
-    block: &[i64],
-    table: &[i64],
-    outline: &[i64; OUTLINE],
-    pair: Pair,
-    i: Place,
-    d: usize,
-) -> bool
-    requires { ⌜ PairPlaces (now block) (now table) (now outline) pair × RowPlace (now block) (now table) i × (d < dims (now block)) ⌝ }
-    ensures { λ y. ⌜ (y ≡ false → (z : ℤ)
-        → within (low (now (block .entry)) (now (table .entry)) (i .number) d) (high (now (block .entry)) (now (table .entry)) (i .number) d) z ≡ true
-        → sideForbids (now (block .entry)) (now (table .entry)) (now (outline .entry)) pair d z ≡ true → ⊥) ⌝ }
-{
-    let r = pair.r;
-    if !words::names_dim(block, r, d) {
-        return true;
-    }
-    let interval = interval_of(block, table, outline, pair, d);
-    let low = words::low_of(block, table, i, d);
-    let high = words::high_of(block, table, i, d);
-    !is_apart(interval.from, interval.to, low, high)
-}
-
-// Whether the pair may forbid row i a point of its ranges: no further than the first dimension in which it forbids none of them.
+// Whether the pair may forbid row i a point of its ranges, and then the points that it forbids: no further than the first dimension in which it
+// forbids none of them.
 pub fn pair_meets(
     block: &[i64],
     table: &[i64],
     outline: &[i64; OUTLINE],
     pair: Pair,
     i: Place,
-) -> bool
+) -> Region
     requires { ⌜ PairPlaces (now block) (now table) (now outline) pair × RowPlace (now block) (now table) i ⌝ }
-    ensures { λ x. ⌜ (x ≡ false → (p : List ℤ) → inRanges (now (block .entry)) (now (table .entry)) (i .number) p ≡ true
-        → solidsForbid (now (block .entry)) (now (table .entry)) (now (outline .entry)) pair p ≡ true → ⊥) ⌝ }
+    ensures { λ x. ⌜ Meets (now (block .entry)) (now (table .entry)) (now (outline .entry)) pair (i .number) x ⌝ }
 {
     let k = words::dims_of(block);
+    let r = pair.r;
+    let mut low = [-REACH; COORDINATES];
+    let mut high = [REACH; COORDINATES];
     let mut d = 0;
     while d < k {
-        if !side_meets(block, table, outline, pair, i, d) {
-            return false;
+        if words::names_dim(block, r, d) {
+            let interval = interval_of(block, table, outline, pair, d);
+            let from = interval.from;
+            let to = interval.to;
+            let first = words::low_of(block, table, i, d);
+            let last = words::high_of(block, table, i, d);
+            if is_apart(from, to, first, last) {
+                return Region::none();
+            }
+            low[d] = from;
+            high[d] = to;
         }
         d += 1;
     }
-    true
+    Region {
+        hit: true,
+        area: Area { low, high },
+    }
 }
 
 // The points that the pair forbids: its intervals in the named dimensions, the whole field in the others.
-pub fn pair_area(block: &[i64], table: &[i64], outline: &[i64; OUTLINE], pair: Pair) -> Area
+pub(crate) fn pair_area(block: &[i64], table: &[i64], outline: &[i64; OUTLINE], pair: Pair) -> Area
     requires { ⌜ PairPlaces (now block) (now table) (now outline) pair ⌝ }
     ensures { λ x. ⌜ Cuts (axes (now (block .entry))) fieldArea x
         (solidsForbid (now (block .entry)) (now (table .entry)) (now (outline .entry)) pair) ⌝ }

@@ -26,7 +26,8 @@ fn threatens_shape(
         return false;
     }
     let pair = gather::hulls(r, s, j, t);
-    pair::pair_meets(block, table, outline, pair, i)
+    let x = pair::pair_meets(block, table, outline, pair, i);
+    x.hit
 }
 
 // Whether row j can forbid row i some point of its ranges by rule r: no further than the last shape of row i's set.

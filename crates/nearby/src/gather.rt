@@ -120,10 +120,12 @@ fn add_row(
     }
     let s = q.s;
     let pair = hulls(r, s, j, t);
-    if !pair::pair_meets(block, table, outline, pair, i) {
+    let x = pair::pair_meets(block, table, outline, pair, i);
+    let hit = x.hit;
+    if !hit {
         return count;
     }
-    let area = pair::pair_area(block, table, outline, pair);
+    let area = x.area;
     let rule = r.number;
     add_area(
         block,

@@ -1,4 +1,4 @@
--- Document 01, "What is allowed": the points at which a row may stand with a shape.
+-- Document 01, "What is allowed", with the clearances of document 02's T-02: the points at which a row may stand with a shape.
 -- A point is a list of coordinates, one for each dimension; those from the last dimension on are not read.
 -- Assumes nothing.
 use mathlib.Core.Bool.{Bool, not, _&&_}

@@ -1,4 +1,4 @@
--- Document 01, "The block and the table": where each word of a sheet stands, and the conditions on it.
+-- Document 01, "The block and the table": where each word of a sheet stands, and the conditions on it, with the clearances of document 02's T-02.
 -- Every definition is total, on any words of any length: past the end of a run stand zeros.
 -- Boxes, rules and dimensions are counted from 0; rows and shapes have their numbers, from 1.
 -- Assumes nothing.

@@ -1,5 +1,6 @@
 -- Document 01, "What is allowed": a fixed placement, and when it is good; and the same by the non-overlap of the Global
--- Constraint Catalogue (document 003) with the room rules. That the two agree is mission demand 2 (proofs/Catalogue.antt).
+-- Constraint Catalogue (document 003), with T-02's clearances, and the room rules. That the two agree is mission demand 2
+-- (proofs/Catalogue.antt).
 -- Assumes nothing.
 use mathlib.Core.Bool.{Bool, _&&_, _||_}
 use mathlib.Core.List.{List}

@@ -63,9 +63,10 @@ returns c =
     let other = l .before in
     let own = other .before in
     let e = c .overlapping .ensures in
+    let q = bits-back (g .clearance-of .ok) ∙ g .clearance-of .ensures in
     record {
-      from = e .0 ∙ rw (bits-back (h .high-of .ok), h .high-of .ensures, bits-back (g .clearance-of .ok), g .clearance-of .ensures, own .extent-of .ensures .1, other .extent-of2 .ensures .0);
-      to = e .1 ∙ rw (bits-back (l .low-of .ok), l .low-of .ensures, bits-back (g .clearance-of .ok), g .clearance-of .ensures, own .extent-of .ensures .0, other .extent-of2 .ensures .1);
+      from = e .0 ∙ rw (q, bits-back (h .high-of .ok), h .high-of .ensures, own .extent-of .ensures .1, other .extent-of2 .ensures .0);
+      to = e .1 ∙ rw (q, bits-back (l .low-of .ok), l .low-of .ensures, own .extent-of .ensures .0, other .extent-of2 .ensures .1);
       from-within = e .2;
       to-within = e .3;
     }

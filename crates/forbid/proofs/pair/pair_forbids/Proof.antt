@@ -20,8 +20,9 @@ Inv-loop block table outline pair p k d₀ d = (d ≤ k) × (allBelow d (λ e. s
 abbrev μ-loop : tie.MeasureT-loop
 μ-loop block table outline pair p k d₀ d = k - d
 
-below-dims : (c : tie.In-loop Inv-loop μ-loop) → c .before .loop .d < dims (now (c .before .before .before .args .block))
-below-dims c = omega (arith, c .before .before .dims-of .ensures, c .loop-test .taken)
+-- the dimension at hand is one of the sheet's
+below-dims : (c : tie.Else1 Inv-loop μ-loop) → c .before .before .loop .d < dims (now (c .before .before .before .before .args .block))
+below-dims c = let l = c .before .before in omega (arith, l .before .dims-of .ensures, l .loop .inv .0, c .if1 .left)
 
 dims-of-requires : tie.Need-dims-of-requires Inv-loop μ-loop
 dims-of-requires c κs = c .pre .accepted .head
@@ -29,18 +30,24 @@ dims-of-requires c κs = c .pre .accepted .head
 loop-holds : tie.Need-loop-holds Inv-loop μ-loop
 loop-holds c = (omega arith, all-zero _)
 
+returns : tie.Need-returns Inv-loop μ-loop
+unfolding solidsForbid
+returns c =
+    let l = c .before .before in
+    sym (rw (c .if1 .taken ∙ l .before .dims-of .ensures) at (l .loop .inv .1))
+
 mul-side-forbids : tie.Need-mul-side-forbids Inv-loop μ-loop
-mul-side-forbids c = omega (arith, below-dims c, c .before .before .before .pre .accepted .head .few-dims)
+mul-side-forbids c = omega (arith, below-dims c, c .before .before .before .before .pre .accepted .head .few-dims)
 
 array-copy-out-side-forbids : tie.Need-array-copy-out-side-forbids Inv-loop μ-loop
-array-copy-out-side-forbids c = omega (arith, below-dims c, c .before .before .before .pre .accepted .head .few-dims)
+array-copy-out-side-forbids c = omega (arith, below-dims c, c .before .before .before .before .pre .accepted .head .few-dims)
 
 side-forbids-requires : tie.Need-side-forbids-requires Inv-loop μ-loop
-side-forbids-requires c κs = (c .before .before .before .before .pre, below-dims (c .before))
+side-forbids-requires c κs = (c .before .before .before .before .before .pre, below-dims (c .before))
 
 module _ (c : tie.After-side-forbids Inv-loop μ-loop) where
   abbrev l : tie.At-loop Inv-loop μ-loop
-  l = c .before .before .before
+  l = c .before .before .before .before
 
   abbrev s : tie.Start Inv-loop μ-loop
   s = l .before .before
@@ -54,28 +61,30 @@ module _ (c : tie.After-side-forbids Inv-loop μ-loop) where
       c .side-forbids .ensures
       ∙ ap (sideForbids _ _ _ _ _) (bits-back {z = word (s .args .t5) (l .loop .d)} (c .before .side-forbids-arg .given))
 
-returns : tie.Need-returns Inv-loop μ-loop
+returns-2 : tie.Need-returns-2 Inv-loop μ-loop
 unfolding solidsForbid
-returns c =
+returns-2 c =
     let b = c .before in
-    sym (all-false (test b) (l b .loop .d) (below-dims (b .before .before)) (sym (tested b) ∙ not-true (c .if1 .taken)))
+    sym (all-false (test b) (l b .loop .d) (below-dims (b .before .before)) (sym (tested b) ∙ not-true (c .if2 .taken)))
 
 add-d : tie.Need-add-d Inv-loop μ-loop
-add-d c = omega arith
+add-d c = omega (arith, c .before .before .before .before .loop-test .taken)
 
 loop-less : tie.Need-loop-less Inv-loop μ-loop
-loop-less c = omega arith
+loop-less c = omega (arith, below-dims (c .before .before .before))
 
 loop-again : tie.Need-loop-again Inv-loop μ-loop
 loop-again c =
     let b = c .before in
-    (omega arith, all-more (l b .loop .d) (test b) ∙ true-and (l b .loop .inv .1) (sym (tested b) ∙ not-false (c .if1 .left)))
+    (omega (arith, below-dims (b .before .before)), all-more (l b .loop .d) (test b) ∙ true-and (l b .loop .inv .1) (sym (tested b) ∙ not-false (c .if2 .left)))
 
-returns-2 : tie.Need-returns-2 Inv-loop μ-loop
+returns-3 : tie.Need-returns-3 Inv-loop μ-loop
 unfolding solidsForbid
-returns-2 c =
+returns-3 c =
     let l = c .before in
-    let q : l .loop .d ≡ dims (now (l .before .before .args .block)) = omega (arith, l .before .dims-of .ensures, c .loop-test .left) in
+    let n = l .before in
+    let few = n .before .pre .accepted .head .few-dims in
+    let q : l .loop .d ≡ dims (now (n .before .args .block)) = omega (arith, n .dims-of .ensures, l .loop .inv .0, few, c .loop-test .left) in
     sym (rw q at (l .loop .inv .1))
 
 pub pair-forbids-spec : {M : Type 1} → statement M
@@ -86,11 +95,12 @@ pair-forbids-spec =
     μ-loop
     dims-of-requires
     loop-holds
+    returns
     mul-side-forbids
     array-copy-out-side-forbids
     side-forbids-requires
-    returns
+    returns-2
     add-d
     loop-less
     loop-again
-    returns-2)
+    returns-3)

@@ -46,7 +46,7 @@ returns-2 c e =
     let s = h .before .before .before in
     let f = s .pre .rows-of in
     hulls-harmless (f .table) (f .outline) (s .args .r) (s .args .j) (s .args .s) (s .pre .shape) (f .row .from) (f .row .upto)
-    (rw (h .hulls .ensures) at (c .pair-meets .ensures e))
+    (rw (h .hulls .ensures) at (c .pair-meets .ensures .clear e))
 
 pub threatens-shape-spec : {M : Type 1} → statement M
 threatens-shape-spec =

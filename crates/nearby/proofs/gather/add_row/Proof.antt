@@ -68,10 +68,7 @@ returns-4 : tie.Need-returns-4
 returns-4 c =
     let m = c .before in
     let h = m .before in
-    grows-clear (rival-clear (rival (h .before)) (rw (h .hulls .ensures) at (m .pair-meets .ensures (not-true (c .if4 .taken)))))
-
-pair-area-requires : tie.Need-pair-area-requires
-pair-area-requires c κs = let h = c .before .before in rw (h .hulls .ensures) (rival-places (rival (h .before)))
+    grows-clear (rival-clear (rival (h .before)) (rw (h .hulls .ensures) at (m .pair-meets .ensures .clear (not-true (c .if4 .taken)))))
 
 add-area-requires : tie.Need-add-area-requires
 add-area-requires c κs =
@@ -96,10 +93,11 @@ same-length c = search needs
 returns-5 : tie.Need-returns-5
 returns-5 c =
     let d = c .before in
-    let a = d .before .before .before in
-    let h = a .before .before .before in
+    let e = d .before .before .before .before in
+    let m = e .before in
+    let h = m .before in
     let x = rival (h .before) in
-    grows-by (rival-set x) (d .add-area .ensures _ _ (rival-threat x (rw (h .hulls .ensures) at (a .pair-area .ensures))))
+    grows-by (rival-set x) (d .add-area .ensures _ _ (rival-threat x (rw (h .hulls .ensures) at (m .pair-meets .ensures .area (not-false (e .if4 .left))))))
 
 pub add-row-spec : {M : Type 1} → statement M
 add-row-spec =
@@ -113,7 +111,6 @@ add-row-spec =
     hulls-requires
     pair-meets-requires
     returns-4
-    pair-area-requires
     add-area-requires
     same-length
     returns-5)

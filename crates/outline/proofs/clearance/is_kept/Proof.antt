@@ -4,7 +4,6 @@ use mathlib.Core.Logic.{⊎-elim}
 use Prim.Native.Nat.{ℕ, _-_, _≤_, _<_}
 use native.Mathlib.Numerals.{add-one}
 use native.Mathlib.Omega.{arith}
-use borrow.Author.Needs.{needs}
 use denote.Ref.{now}
 use Rattle.integers.proofs.Booleans.{clash, not-false}
 use Rattle.integers.proofs.Below.{last-or}
@@ -25,33 +24,41 @@ dims-of-requires c κs = c .pre .accepted .head
 loop-holds : tie.Need-loop-holds Inv-loop μ-loop
 loop-holds c = (omega arith, λ e l. absurd (omega arith))
 
-is-kept-in-requires : tie.Need-is-kept-in-requires Inv-loop μ-loop
-is-kept-in-requires c κs =
-    let n = c .before .before in
-    (n .before .pre, omega (arith, n .dims-of .ensures, c .loop-test .taken))
-
+-- all dimensions are passed
 returns : tie.Need-returns Inv-loop μ-loop
-returns c = λ e. clash e refl
+returns c = λ t d h. let l = c .before .before in l .loop .inv .1 d (omega (arith, l .before .dims-of .ensures, c .if1 .taken))
+
+-- the dimension at hand is one of the sheet's
+is-dim : (c : tie.Else1 Inv-loop μ-loop) → c .before .before .loop .d < dims (now (c .before .before .before .before .args .block))
+is-dim c = let l = c .before .before in omega (arith, l .before .dims-of .ensures, l .loop .inv .0, c .if1 .left)
+
+is-kept-in-requires : tie.Need-is-kept-in-requires Inv-loop μ-loop
+is-kept-in-requires c κs = (c .before .before .before .before .pre, is-dim c)
+
+returns-2 : tie.Need-returns-2 Inv-loop μ-loop
+returns-2 c = λ e. clash e refl
 
 add-d : tie.Need-add-d Inv-loop μ-loop
-add-d c = search needs
+add-d c = omega (arith, c .before .before .before .loop-test .taken)
 
 loop-less : tie.Need-loop-less Inv-loop μ-loop
-loop-less c = search needs
+loop-less c = omega (arith, is-dim (c .before .before))
 
 loop-again : tie.Need-loop-again Inv-loop μ-loop
 loop-again c =
     let s = c .before in
-    let l = s .before .before in (
-      omega (arith, s .before .loop-test .taken),
+    let l = s .before .before .before in (
+      omega (arith, is-dim (s .before)),
       λ e h. ⊎-elim
-          (λ q. subst (KeepsIn _ _ _) (sym q) (s .is-kept-in .ensures (not-false (c .if1 .left))))
+          (λ q. subst (KeepsIn _ _ _) (sym q) (s .is-kept-in .ensures (not-false (c .if2 .left))))
           (λ k. l .loop .inv .1 e k)
           (last-or (subst (λ (n : ℕ). e < n) (add-one (l .loop .d)) h)),
     )
 
-returns-2 : tie.Need-returns-2 Inv-loop μ-loop
-returns-2 c = λ t d h. c .before .loop .inv .1 d (omega (arith, c .before .before .dims-of .ensures, c .before .loop .inv .0, c .loop-test .left))
+returns-3 : tie.Need-returns-3 Inv-loop μ-loop
+returns-3 c = λ t d h.
+    let n = c .before .before in
+    c .before .loop .inv .1 d (omega (arith, n .dims-of .ensures, n .before .pre .accepted .head .few-dims, c .loop-test .left))
 
 pub is-kept-spec : {M : Type 1} → statement M
 is-kept-spec =
@@ -61,9 +68,10 @@ is-kept-spec =
     μ-loop
     dims-of-requires
     loop-holds
-    is-kept-in-requires
     returns
+    is-kept-in-requires
+    returns-2
     add-d
     loop-less
     loop-again
-    returns-2)
+    returns-3)

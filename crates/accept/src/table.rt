@@ -69,12 +69,13 @@ fn valid_row(block: &[i64], table: &[i64], i: Place, flags: [bool; 33]) -> bool
     shapes_boxed(block, table, i, flags) && valid_ranges(block, table, i)
 }
 
+// From the first shape of the row's set to the last.
 fn shapes_boxed(block: &[i64], table: &[i64], i: Place, flags: [bool; 33]) -> bool
     requires { ⌜ SetRow (now block) (now table) i flags ⌝ }
     ensures { λ r. ⌜ r ≡ allUpTo 32 (shapeBoxed (now (block .entry)) (now (table .entry)) (i .number)) ⌝ }
 {
     let set = words::shapes_of(block, table, i);
-    let mut s = 0;
+    let mut s = u32::trailing_zeros(set) as usize;
     while s < 32 {
         if words::is_below(set, s) {
             return true;

@@ -94,17 +94,11 @@ pub(crate) fn pair_forbids(
     true
 }
 
-// Whether no number from a first to a last one lies from low to high.
+// Whether no number from a first to a last one lies from low to high. All three tests are made, for one branch instead of three.
 fn is_apart(from: i64, to: i64, low: i64, high: i64) -> bool
     ensures { λ r. ⌜ (r ≡ true → (z : ℤ) → within from to z ≡ true → within low high z ≡ true → ⊥) ⌝ }
 {
-    if to < from {
-        return true;
-    }
-    if to < low {
-        return true;
-    }
-    high < from
+    (to < low) | (high < from) | (to < from)
 }
 
 // Whether the pair may forbid row i a point of its ranges, and then the points that it forbids: no further than the first dimension in which it

@@ -1,5 +1,6 @@
 -- One shape more of a row: whether it is kept (`kept-shape`, `kept-not`), and what is kept with it (`kept-next`) or, if it is not in the row's
--- set, without it (`kept-skip`); of no shape (`kept-start`), and of all (`kept-rest`). Assumes nothing.
+-- set, without it (`kept-skip`); of no shape (`kept-start`), of those before the set's first (`kept-first`), and of all (`kept-rest`).
+-- Assumes nothing.
 use mathlib.Core.Path.{_≡_, sym, ap, subst}
 use mathlib.Core.Bool.{Bool, true, false, cond}
 use mathlib.Core.List.{List}
@@ -75,6 +76,13 @@ module _ (block : List ℤ) (t : List ℤ) (i : ℕ) where
           let none-of : None = λ p held a. clash held e in
           let q : shapes + 0 ≡ shapes = omega arith in
           subst (λ (n : ℕ). KeptTo block t i (suc s) n ends) q (kept-next false (kept-not none-of) (ends-skip none-of (x .ends-of)))
+
+  -- no shape of the row's set is before the first
+  pub kept-first : (ends : List ℤ) → KeptTo block t i 0 0 ends → (m : ℕ) → ((s : ℕ) → 1 ≤ s → s ≤ m → hasShape block t i s ≡ false)
+      → KeptTo block t i m 0 ends
+  kept-first ends x zero h = x
+  kept-first ends x (suc m) h =
+      kept-skip m 0 ends (kept-first ends x m (λ s f u. h s f (omega (arith, u)))) (h (suc m) (omega arith) (omega arith))
 
   past-set : {s : ℕ} (m : ℕ) → nat (shapeSet block t i) < 2 ^ s → s ≤ m → hasShape block t i (suc m) ≡ false
   unfolding hasShape holds

@@ -86,7 +86,7 @@ fn with_next(
     shapes
 }
 
-// Which shapes of row i have a point: no further than the last of its set. The ends are lent as those of no shape.
+// Which shapes of row i have a point: from the first of its set to the last. The ends are lent as those of no shape.
 pub(crate) fn kept_shapes(
     block: &[i64],
     table: &[i64],
@@ -101,7 +101,7 @@ pub(crate) fn kept_shapes(
 {
     let set = words::shapes_of(block, table, i);
     let mut shapes = 0;
-    let mut s = 0;
+    let mut s = u32::trailing_zeros(set) as usize;
     while s < 32 {
         if words::is_below(set, s) {
             return shapes;

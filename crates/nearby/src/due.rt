@@ -30,7 +30,7 @@ fn threatens_shape(
     x.hit
 }
 
-// Whether row j can forbid row i some point of its ranges by rule r: no further than the last shape of row i's set.
+// Whether row j can forbid row i some point of its ranges by rule r: from the first shape of row i's set to the last.
 pub fn threatens_row(
     block: &[i64],
     table: &[i64],
@@ -51,7 +51,7 @@ pub fn threatens_row(
         return threatens_shape(block, table, outline, r, j, t, i, own);
     }
     let set = words::shapes_of(block, table, i);
-    let mut s = 0;
+    let mut s = u32::trailing_zeros(set) as usize;
     while s < 32 {
         if words::is_below(set, s) {
             return false;

@@ -94,4 +94,7 @@ module _ (block : List ℤ) (table : List ℤ) where
   pub clear-plainly : (r i b j c d : ℕ) → pos 0 ≤ℤ clearance block r d → clear block table r i b j c d ≡ true → plainClear i b j c d ≡ true
   unfolding clear
   clear-plainly r i b j c d g e =
-      ⊎-elim (λ x. or-left (plainPast j c i b d) (past-plainly r i b j c d g x)) (λ x. or-right (plainPast i b j c d) (past-plainly r j c i b d g x)) (or-true e)
+      ⊎-elim
+      (λ x. or-left (plainPast j c i b d) (past-plainly r i b j c d g x))
+      (λ x. or-right (plainPast i b j c d) (past-plainly r j c i b d g x))
+      (or-true e)

@@ -6,10 +6,11 @@ use Prim.Native.Nat.{ℕ, _^_, _-_, _≤_, _<_}
 use native.Mathlib.Omega.{arith}
 use borrow.Author.Needs.{needs}
 use denote.Ref.{now}
+use lib.Count.{trailing-le}
 use Rattle.integers.specs.Below.{allUpTo}
 use Rattle.integers.proofs.Booleans.{implies-out}
-use Rattle.integers.proofs.Below.{all-zero, upto-at, at-upto, below-or}
-use Rattle.words.proofs.Shapes.{none-past}
+use Rattle.integers.proofs.Below.{upto-at, at-upto, below-or}
+use Rattle.words.proofs.Shapes.{none-before, none-past}
 use Rattle.accept.specs.Parts.{boxed, shapeBoxed}
 use Rattle.accept.proofs.Turns.{fails-by, passes-by, upto-next, upto-false, all-done}
 use Rattle.accept.proofs.table.shapes_boxed.Statement.{statement}
@@ -27,8 +28,17 @@ test c = let a = c .before .before .args in shapeBoxed (now (a .block)) (now (a 
 shapes-of-requires : tie.Need-shapes-of-requires Inv-loop μ-loop
 shapes-of-requires c κs = (c .pre .place, c .pre .set-count)
 
+cast-s : tie.Need-cast-s Inv-loop μ-loop
+cast-s c = omega (arith, trailing-le 32 (c .shapes-of .result))
+
+-- the row has no shape before its first
 loop-holds : tie.Need-loop-holds Inv-loop μ-loop
-loop-holds c = (search needs, all-zero _)
+loop-holds c =
+    let a = c .before .args in (
+      trailing-le 32 (c .shapes-of .result),
+      at-upto (shapeBoxed (now (a .block)) (now (a .table)) (a .i .number)) (λ m from upto.
+          implies-out (boxed (now (a .block)) m) (none-before (now (a .block)) (now (a .table)) (a .i .number) (c .shapes-of .ensures) m from upto)),
+    )
 
 is-below-requires : tie.Need-is-below-requires Inv-loop μ-loop
 is-below-requires c κs = c .loop-test .taken
@@ -77,6 +87,7 @@ shapes-boxed-spec =
     Inv-loop
     μ-loop
     shapes-of-requires
+    cast-s
     loop-holds
     is-below-requires
     returns

@@ -76,7 +76,8 @@ loop-less c = omega (arith, below-dims (c .before .before .before))
 loop-again : tie.Need-loop-again Inv-loop μ-loop
 loop-again c =
     let b = c .before in
-    (omega (arith, below-dims (b .before .before)), all-more (l b .loop .d) (test b) ∙ true-and (l b .loop .inv .1) (sym (tested b) ∙ not-false (c .if2 .left)))
+    let here = sym (tested b) ∙ not-false (c .if2 .left) in
+    (omega (arith, below-dims (b .before .before)), all-more (l b .loop .d) (test b) ∙ true-and (l b .loop .inv .1) here)
 
 returns-3 : tie.Need-returns-3 Inv-loop μ-loop
 unfolding solidsForbid

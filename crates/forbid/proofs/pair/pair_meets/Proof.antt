@@ -105,17 +105,21 @@ returns c =
       area = λ e. clash e (ap (λ (y : Region). y .hit) (c .none .ensures));
     }
 
+-- the turn of the loop in which the interval meets the range
+abbrev turn : tie.Else2 Inv-loop μ-loop → tie.In-loop Inv-loop μ-loop
+turn c = c .before .before .before .before .before .before .before .before .before
+
 mul-low : tie.Need-mul-low Inv-loop μ-loop
-mul-low c = omega (arith, few (c .before .before .before .before .before .before .before .before .before))
+mul-low c = omega (arith, few (turn c))
 
 array-set-from-low : tie.Need-array-set-from-low Inv-loop μ-loop
-array-set-from-low c = let l = c .before .before .before .before .before .before .before .before .before in omega (arith, few l, l .before .loop .inv .1)
+array-set-from-low c = omega (arith, few (turn c), turn c .before .loop .inv .1)
 
 mul-high : tie.Need-mul-high Inv-loop μ-loop
-mul-high c = omega (arith, few (c .before .before .before .before .before .before .before .before .before))
+mul-high c = omega (arith, few (turn c))
 
 array-set-from-high : tie.Need-array-set-from-high Inv-loop μ-loop
-array-set-from-high c = let l = c .before .before .before .before .before .before .before .before .before in omega (arith, few l, l .before .loop .inv .2)
+array-set-from-high c = omega (arith, few (turn c), turn c .before .loop .inv .2)
 
 add-d : tie.Need-add-d Inv-loop μ-loop
 add-d c = omega (arith, few (c .before .before))

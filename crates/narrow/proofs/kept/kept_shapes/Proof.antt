@@ -4,11 +4,13 @@ use Prim.Native.Nat.{ℕ, _+_, _^_, _≤_, _<_, _-_}
 use native.Mathlib.Numerals.{add-one}
 use native.Mathlib.Omega.{arith}
 use denote.Ref.{now}
+use lib.Count.{trailingZeros, trailing-le}
 use lib.ListN.{length}
+use Rattle.words.proofs.Shapes.{none-before}
 use Rattle.points.specs.Area.{areaWords}
 use Rattle.sheet.proofs.Accepted.{set-count}
 use Rattle.narrow.specs.Shapes.{KeptTo}
-use Rattle.narrow.proofs.KeptTo.{kept-start, kept-rest}
+use Rattle.narrow.proofs.KeptTo.{kept-start, kept-first, kept-rest}
 use Rattle.narrow.proofs.kept.kept_shapes.Statement.{statement}
 use Rattle.narrow.proofs.kept.kept_shapes.Tie as tie
 
@@ -24,11 +26,19 @@ shapes-of-requires c κs =
     let on = c .pre .on in
     (on .row, set-count (on .table) (on .row .from) (on .row .upto))
 
+cast-s : tie.Need-cast-s Inv-loop μ-loop
+cast-s c = omega (arith, trailing-le 32 (c .shapes-of .result))
+
 loop-holds : tie.Need-loop-holds Inv-loop μ-loop
 loop-holds c =
     let s = c .before in
     let a = s .args in
-    (omega arith, kept-start (now (a .block)) (now (a .table)) (a .i .number) (s .pre .ends-of), refl, s .pre .long)
+    let start = kept-start (now (a .block)) (now (a .table)) (a .i .number) (s .pre .ends-of) in (
+      trailing-le 32 (c .shapes-of .result),
+      kept-first _ _ _ _ start (trailingZeros 32 (c .shapes-of .result)) (none-before _ _ _ (c .shapes-of .ensures)),
+      refl,
+      s .pre .long,
+    )
 
 is-below-requires : tie.Need-is-below-requires Inv-loop μ-loop
 is-below-requires c κs = c .loop-test .taken
@@ -95,6 +105,7 @@ kept-shapes-spec =
     Inv-loop
     μ-loop
     shapes-of-requires
+    cast-s
     loop-holds
     is-below-requires
     same-length

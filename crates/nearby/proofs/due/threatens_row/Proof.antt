@@ -9,6 +9,7 @@ use native.Mathlib.Nat.{eq-or-lt-of-le, le-of-suc-le-suc}
 use native.Mathlib.Omega.{arith}
 use native.Mathlib.Numerals.{add-one}
 use denote.Ref.{now}
+use lib.Count.{trailing-le}
 use lib.IntN.{ℤ}
 use borrow.Author.Tests.{eq-eqb}
 use Rattle.integers.proofs.Booleans.{clash}
@@ -16,7 +17,7 @@ use Rattle.integers.proofs.Below.{up-next, below-or}
 use Rattle.integers.proofs.Sets.{same-only, small-set, member-ge-1}
 use Rattle.sheet.specs.Layout.{rows, shapeSet, hasShape, hasOnly}
 use Rattle.sheet.specs.Accepted.{Boxed, Table}
-use Rattle.words.proofs.Shapes.{none-past}
+use Rattle.words.proofs.Shapes.{none-before, none-past}
 use Rattle.forbid.proofs.Rows.{several-none, single-set, single-boxed}
 use Rattle.nearby.specs.Due.{ShapeHarmless, HarmlessBy}
 use Rattle.sheet.proofs.Accepted.{set-count}
@@ -86,8 +87,11 @@ shapes-of-requires c κs =
     let p = start (c .before .before) .pre in
     (p .row, set-count (p .table) (p .row .from) (p .row .upto))
 
+cast-s : tie.Need-cast-s Inv-loop μ-loop
+cast-s c = omega (arith, trailing-le 32 (c .shapes-of .result))
+
 loop-holds : tie.Need-loop-holds Inv-loop μ-loop
-loop-holds c = (omega arith, λ m f u. absurd (omega arith))
+loop-holds c = (trailing-le 32 (c .shapes-of .result), λ m f u p h k. clash h (none-before _ _ _ (c .shapes-of .ensures) m f u))
 
 is-below-requires : tie.Need-is-below-requires Inv-loop μ-loop
 is-below-requires c κs = omega (arith, c .loop-test .taken)
@@ -156,6 +160,7 @@ threatens-row-spec =
     threatens-shape-requires
     returns-2
     shapes-of-requires
+    cast-s
     loop-holds
     is-below-requires
     returns-3

@@ -97,7 +97,8 @@ returns-5 c =
     let m = e .before in
     let h = m .before in
     let x = rival (h .before) in
-    grows-by (rival-set x) (d .add-area .ensures _ _ (rival-threat x (rw (h .hulls .ensures) at (m .pair-meets .ensures .area (not-false (e .if4 .left))))))
+    let area = rw (h .hulls .ensures) at (m .pair-meets .ensures .area (not-false (e .if4 .left))) in
+    grows-by (rival-set x) (d .add-area .ensures _ _ (rival-threat x area))
 
 pub add-row-spec : {M : Type 1} → statement M
 add-row-spec =

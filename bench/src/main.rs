@@ -2,6 +2,7 @@
 //! 000 has them and tuned. It checks on every sheet that all agree word for word and prints one table; times of one
 //! run are compared with one another alone. See ../run for how it is built and called.
 
+mod against;
 mod brute;
 mod decode;
 mod generate;
@@ -52,10 +53,13 @@ fn main() -> ExitCode {
         ["--quick", "--only", start] => table(&quick, start),
         #[cfg(kernel)]
         ["--relation"] => relation::table(),
+        ["--against", this, other] => against::table(this, other),
         ["--selftest"] => selftest::run(40_000),
         ["--selftest", count] => selftest::run(count.parse().expect("a number of sheets")),
         _ => {
-            eprintln!("words: [--quick] [--only START], or --relation, or --selftest [COUNT]");
+            eprintln!(
+                "words: [--quick] [--only START], or --relation, or --against LIBRARY LIBRARY, or --selftest [COUNT]"
+            );
             ExitCode::from(2)
         }
     }

@@ -1,9 +1,9 @@
--- The numbers below n: tests of all and of some of them, sums, the first and the last that passes a test.
+-- The numbers below n: tests of all and of some of them, sums, products, the first and the last that passes a test.
 -- Each stops early: what a `let` binds is computed only where the test before it leaves the answer open.
 -- Assumes nothing.
 use mathlib.Core.Bool.{Bool, true, false, cond, _&&_, _||_}
 use mathlib.Core.Option.{Option, none, some}
-use Prim.Native.Nat.{ℕ, zero, suc, _+_, _≤_}
+use Prim.Native.Nat.{ℕ, zero, suc, _+_, _*_, _≤_}
 
 -- a implies b
 infixr 25 _⇒_
@@ -36,6 +36,11 @@ pub record UpTo (n i : ℕ) : Type 0 where
 unfoldable pub sumBelow : ℕ → (ℕ → ℕ) → ℕ
 sumBelow zero f = 0
 sumBelow (suc n) f = sumBelow n f + f n
+
+-- f 0 · .. · f (n − 1)
+unfoldable pub productBelow : ℕ → (ℕ → ℕ) → ℕ
+productBelow zero f = 1
+productBelow (suc n) f = productBelow n f * f n
 
 -- the least, the greatest, of the numbers 0 to n − 1 at which f passes
 unfoldable pub leastBelow : ℕ → (ℕ → Bool) → Option ℕ

@@ -95,7 +95,7 @@ fn row_good(block: &[i64], table: &[i64], outline: &[i64; OUTLINE], i: Place) ->
 }
 
 // Whether every row of a fixed placement stands at its point, with its one shape.
-fn all_good(block: &[i64], table: &[i64], outline: &[i64; OUTLINE]) -> bool
+pub fn all_good(block: &[i64], table: &[i64], outline: &[i64; OUTLINE]) -> bool
     requires { ⌜ FixedSheet (now block) (now table) (now outline) ⌝ }
     ensures { λ r. ⌜ r ≡ good (now (block .entry)) (now (table .entry)) ⌝ }
 {

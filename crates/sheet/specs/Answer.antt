@@ -19,6 +19,8 @@ use Rattle.sheet.specs.declared.Settling.the-variants as S
 use Rattle.sheet.specs.declared.Allen.{Allen}
 use Rattle.sheet.specs.declared.Standing.{Standing}
 use Rattle.sheet.specs.declared.Standing.the-variants as R
+use Rattle.sheet.specs.declared.Share.{Share}
+use Rattle.sheet.specs.declared.Share.the-variants as F
 
 unfoldable pub pointAnswer : ℕ → Bool → PointTest
 pointAnswer zero true = P.Allowed
@@ -48,6 +50,10 @@ settleAnswer (suc g) o = S.Refused (pos (suc g))
 unfoldable pub standingAnswer : ℕ → Allen → Standing
 standingAnswer zero x = R.Bears x
 standingAnswer (suc g) x = R.Refused (pos (suc g))
+
+unfoldable pub fillAnswer : ℕ → ℕ → ℕ → Share
+fillAnswer zero c p = F.Of (pos c) (pos p)
+fillAnswer (suc g) c p = F.Refused (pos (suc g))
 
 -- the table after narrowing or settling: unchanged where it is refused or nothing is left
 unfoldable pub tableAfter : ℕ → List ℤ → Option (List ℤ) → List ℤ

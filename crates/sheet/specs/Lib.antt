@@ -5,6 +5,7 @@ pub mod Bounds
 pub mod Narrow
 pub mod Settle
 pub mod Relation
+pub mod Fill
 pub mod Refusal
 pub mod Accepted
 pub mod Answer
@@ -14,3 +15,4 @@ pub mod Positions
 pub mod TextPositions
 pub mod RelationPositions
 pub mod ClearancePositions
+pub mod FillPositions

@@ -1,6 +1,6 @@
--- Document 01, "Grounds for turning a sheet away, in checking order": the checks 2 to 12, the first that applies for each kind of
--- call (a refusal is the document's ground; 0 means that none applies), and the row slice. Row, shape and dimension that are asked
--- about are words; a row and a shape are read as numbers once their checks have passed. Check 1 is in Text.antt. Assumes nothing.
+-- Document 01, "Grounds for turning a sheet away, in checking order": the checks 2 to 12, and 13 to 15 of document 02's T-03; the first
+-- that applies for each kind of call (a refusal is the document's ground; 0 means that none applies), and the row slice. Row, shape, dimension
+-- and rule that are asked about are words; they are read as numbers once their checks have passed. Check 1 is in Text.antt. Assumes nothing.
 use mathlib.Core.Bool.{Bool, true, false, not, _&&_, _||_}
 use mathlib.Core.List.{List, []}
 use Prim.Native.Nat.{ℕ, zero, suc, _*_}
@@ -12,7 +12,8 @@ use Rattle.integers.specs.Integer.{nat, within}
 use Rattle.integers.specs.Below.{allBelow, allUpTo}
 use Rattle.integers.specs.Words.{word}
 use Rattle.sheet.specs.Layout.{dims, axes, boxes, rules, rowLen, blockLen, rowAt, validBox, validRule, rows, hasShape, validRow}
-use Rattle.sheet.specs.Placement.{fixed}
+use Rattle.sheet.specs.Placement.{fixed, good}
+use Rattle.sheet.specs.Fill.{ruleAsked, isFillRule, roomCells}
 
 -- a refusal's number where its check applies, and 0 where it does not
 infix 20 _when_
@@ -47,6 +48,14 @@ module _ (block : List ℤ) where
   unfoldable pub noBoxDim : ℤ → Bool
   noBoxDim dim = not (leZ (pos 0) dim && ltZ dim (pos (dims block)))
 
+  -- 13 (T-03): the rule asked about is none, or not one of kind 2 that names every dimension
+  unfoldable pub noFillRule : ℤ → Bool
+  noFillRule rule = not (within (pos 1) (pos (rules block)) rule && isFillRule block (ruleAsked rule))
+
+  -- 14: its room has no cells or more than 4,096
+  unfoldable pub badCells : ℕ → Bool
+  badCells r = not (leb 1 (roomCells block r) && leb (roomCells block r) 4096)
+
   module _ (table : List ℤ) where
     -- 5: not n(1 + 2k) words with n from 1 to 32
     unfoldable pub badTableLength : Bool
@@ -76,6 +85,10 @@ module _ (block : List ℤ) where
     unfoldable pub notFixed : Bool
     notFixed = not (fixed block table)
 
+    -- 15: the placement is not good
+    unfoldable pub notGood : Bool
+    notGood = not (good block table)
+
     -- ---- the first that applies: for a call that is given a sheet
     unfoldable pub refusal : ℕ
     refusal =
@@ -103,6 +116,10 @@ module _ (block : List ℤ) where
     refusalRelation row other dim =
         refusalRow row else 9 when noSuchRow other else 11 when noBoxDim dim else 12 when notFixed
 
+    -- and a rule, whose fill is asked in a placement (T-03)
+    unfoldable pub refusalFill : ℤ → ℕ
+    refusalFill rule = refusalPlacement else 13 when noFillRule rule else 14 when badCells (ruleAsked rule) else 15 when notGood
+
     -- ---- the row slice: the part of the table where the row stands; empty when refused
     unfoldable pub sliceUnless : ℕ → ℕ → List ℤ
     sliceUnless zero i = take (rowLen block) (drop (rowAt block i) table)
@@ -121,6 +138,6 @@ module _ (block : List ℤ) where
 
 -- one name that opens every definition above: `unfolding refusing`
 unfoldable pub refusing : Unit {0}
-unfolding _when_ _else_ badHead badCounts badBlockLength badBox noBoxDim badTableLength badRule badRow noSuchRow noSuchShape noSuchDim
-    notFixed refusal refusalRow refusalShape refusalDim refusalPlacement refusalRelation sliceUnless rowSlice startUnless rowStart
+unfolding _when_ _else_ badHead badCounts badBlockLength badBox noBoxDim noFillRule badCells badTableLength badRule badRow noSuchRow
+    noSuchShape noSuchDim notFixed notGood refusal refusalRow refusalShape refusalDim refusalPlacement refusalRelation refusalFill sliceUnless rowSlice startUnless rowStart
 refusing = tt

@@ -82,3 +82,11 @@ pub enum Standing {
     Bears(Allen),
     Refused(i64),
 }
+
+// ---- the fill of a room (document 02, T-03)
+
+// How many cells of the room are covered, and how many thousandths of it they are.
+pub enum Share {
+    Of(i64, i64),
+    Refused(i64),
+}

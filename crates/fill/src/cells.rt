@@ -1,15 +1,12 @@
-// The cells of a room that the rows of its rule cover: each box of each row is marked in a grid, and the marks are counted, so that a cell that
-// several boxes cover counts once.
+// The cells of a room that the rows of its rule cover: the boxes of each row are marked in a grid, and the marks are counted, so that a cell
+// that several boxes cover counts once.
 ghost use mathlib.Core.Path.{_≡_};
-ghost use mathlib.Core.Bool.{true, false, _||_};
+ghost use mathlib.Core.Bool.{false, _||_};
 ghost use Prim.Native.Nat.{ℕ, _<_};
 ghost use lib.ListN.{getD};
-ghost use Rattle.integers.specs.Below.{UpTo};
-ghost use Rattle.sheet.specs.Layout.{dims, boxes, namesRow, ofRow, rows};
-ghost use Rattle.sheet.specs.Fill.{roomCells, boxCovers, rowCovers, coveredCells};
-ghost use Rattle.words.specs.Places.{BoxPlace, RowPlace};
-ghost use Rattle.grid.specs.Grid.{Lies, inBrick};
-ghost use Rattle.fill.specs.Room.{Counting, cellAt, coversFrom, IsWidths};
+ghost use Rattle.sheet.specs.Fill.{roomCells, rowCovers, coversCell, coveredCells};
+ghost use Rattle.sheet.specs.Cells.{cellAt};
+ghost use Rattle.fill.specs.Room.{IsWidths, Counting, Named, NamedBox, IsBrick};
 use crate::room;
 use grid::Brick;
 use grid::CELLS;
@@ -18,8 +15,10 @@ use outline::chain;
 use sheet::DIMS;
 use words::Place;
 
-// Box b of row i, from the room's low corner.
-fn brick_of(block: &[i64], table: &[i64], r: Place, i: Place, b: Place) -> Brick
+// Box b of row i, its places counted from the room's low corner.
+fn brick_of(block: &[i64], table: &[i64], outline: &[i64; OUTLINE], r: Place, i: Place, b: Place) -> Brick
+    requires { ⌜ NamedBox (now block) (now table) (now outline) r i b ⌝ }
+    ensures { λ x. ⌜ IsBrick (now (block .entry)) (now (table .entry)) (r .number) (i .number) (b .number) x ⌝ }
 {
     let k = words::dims_of(block);
     let mut from = [0usize; DIMS];
@@ -44,13 +43,18 @@ fn mark_row(
     widths: [usize; DIMS],
     marks: &mut [bool; CELLS],
 )
+    requires { ⌜ Named (now block) (now table) (now outline) r i × IsWidths (now block) (r .number) widths ⌝ }
+    ensures { λ _. ⌜ ((m : ℕ) → m < roomCells (now (block .entry)) (r .number) → getD (now (marks .exit)) m false
+        ≡ (getD (now (marks .entry)) m false
+        || rowCovers (now (block .entry)) (now (table .entry)) (i .number) (cellAt (now (block .entry)) (r .number) m))) ⌝ }
 {
     let k = words::dims_of(block);
     let n = words::boxes_of(block);
-    let s = u32::trailing_zeros(words::shapes_of(block, table, i)) as usize + 1;
+    let set = words::shapes_of(block, table, i);
+    let s = u32::trailing_zeros(set) as usize + 1;
     let mut b = chain::first_of(block, outline, s);
     while b < n {
-        let brick = brick_of(block, table, r, i, words::box_place(block, b));
+        let brick = brick_of(block, table, outline, r, i, words::box_place(block, b));
         grid::mark_brick(marks, k, widths, brick);
         b = chain::after(block, outline, b, s);
     }
@@ -64,6 +68,10 @@ fn mark_rows(
     r: Place,
     marks: &mut [bool; CELLS],
 )
+    requires { ⌜ Counting (now block) (now table) (now outline) r ⌝ }
+    ensures { λ _. ⌜ ((m : ℕ) → m < roomCells (now (block .entry)) (r .number) → getD (now (marks .exit)) m false
+        ≡ (getD (now (marks .entry)) m false
+        || coversCell (now (block .entry)) (now (table .entry)) (r .number) (cellAt (now (block .entry)) (r .number) m))) ⌝ }
 {
     let widths = room::widths_of(block, r);
     let n = words::rows_of(block, table);
@@ -79,6 +87,8 @@ fn mark_rows(
 
 // How many of the room's n cells are covered.
 pub(crate) fn covered_cells(block: &[i64], table: &[i64], outline: &[i64; OUTLINE], r: Place, n: usize) -> usize
+    requires { ⌜ Counting (now block) (now table) (now outline) r × (n ≡ roomCells (now block) (r .number)) ⌝ }
+    ensures { λ x. ⌜ x ≡ coveredCells (now (block .entry)) (now (table .entry)) (r .number) ⌝ }
 {
     let mut marks = [false; CELLS];
     mark_rows(block, table, outline, r, &mut marks);

@@ -4,7 +4,7 @@ ghost use mathlib.Core.Bool.{cond};
 ghost use Prim.Native.Nat.{ℕ, _<_};
 ghost use Rattle.integers.specs.Below.{allBelow};
 ghost use Rattle.sheet.specs.Layout.{dims, namesDim};
-ghost use Rattle.sheet.specs.Fill.{roomWidth, roomCells};
+ghost use Rattle.sheet.specs.Fill.{isFillRule, roomWidth, roomCells};
 ghost use Rattle.sheet.specs.Refusal.{noFillRule, badCells};
 ghost use Rattle.sheet.specs.Accepted.{Block};
 ghost use Rattle.words.specs.Places.{RulePlace};
@@ -29,6 +29,13 @@ fn names_every_dim(block: &[i64], r: Place) -> bool
     true
 }
 
+fn is_fill_rule(block: &[i64], r: Place) -> bool
+    requires { ⌜ Block (now block) × RulePlace (now block) r ⌝ }
+    ensures { λ x. ⌜ x ≡ isFillRule (now (block .entry)) (r .number) ⌝ }
+{
+    words::is_containment(block, r) && names_every_dim(block, r)
+}
+
 // A rule is asked about by its position, from 1.
 pub(crate) fn no_fill_rule(block: &[i64], rule: i64) -> bool
     requires { ⌜ Block (now block) ⌝ }
@@ -37,8 +44,7 @@ pub(crate) fn no_fill_rule(block: &[i64], rule: i64) -> bool
     if !words::is_within(rule, 1, words::rules_of(block) as i64) {
         return true;
     }
-    let r = words::rule_place(block, rule as usize - 1);
-    !(words::is_containment(block, r) && names_every_dim(block, r))
+    !is_fill_rule(block, words::rule_place(block, rule as usize - 1))
 }
 
 // How many cells wide the room is in dimension d.

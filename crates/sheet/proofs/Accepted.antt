@@ -103,6 +103,17 @@ module _ (block : List ℤ) where
       pick false true u = let a = and-true u in (from-zero 1000 1000000 (omega arith) (a .0), is-zero 1000000 (a .1))
       pick false false u = let a = and-true u in (is-zero 1000000 (a .0), is-zero 1000000 (a .1))
 
+  room-ordered : (r d : ℕ) → isContainment block r ≡ true → namesDim block r d ≡ true → validEnds block r d ≡ true
+      → roomLow block r d ≤ℤ roomHigh block r d
+  unfolding validEnds
+  room-ordered r d k n e = pick (rw (k, n) at e)
+    where
+      pick : (within (minus 1000000) (pos 1000000) (roomLow block r d) && within (minus 1000000) (pos 1000000) (roomHigh block r d)
+          && leZ (roomLow block r d) (roomHigh block r d)) ≡ true → roomLow block r d ≤ℤ roomHigh block r d
+      pick u =
+          le-of-test (and-true {a = within (minus 1000000) (pos 1000000) (roomLow block r d)
+          && within (minus 1000000) (pos 1000000) (roomHigh block r d)} u .1)
+
   one-kind : (r : ℕ) → isNonOverlap block r ≡ true → isContainment block r ≡ false
   unfolding isNonOverlap isContainment
   one-kind r e = fails (λ f. let a = eqZ-eq e in let b = eqZ-eq f in omega ints)
@@ -305,6 +316,7 @@ module _ (block : List ℤ) where
             row-sets = λ r h. counted 1 _ (power (rows block t) 32 (accepted-rows .few-rows) (omega arith)) (rule-valid r h .row-set);
             room-lows = λ r d h l. end-bounds r d (rule-valid r h .ends d l) .0;
             room-highs = λ r d h l. end-bounds r d (rule-valid r h .ends d l) .1;
+            rooms-ordered = λ r d h l k n. room-ordered r d k n (rule-valid r h .ends d l);
             clearances = λ r d h l. end-bounds r d (rule-valid r h .ends d l) .0;
             clearances-from = λ r d h l k. not-negative r d k (rule-valid r h .ends d l);
           }

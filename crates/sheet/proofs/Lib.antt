@@ -18,3 +18,6 @@ pub mod Steps
 pub mod Local
 pub mod Demand3
 pub mod GoodSettled
+pub mod Rounding
+pub mod Fill
+pub mod Cells

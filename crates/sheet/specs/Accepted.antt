@@ -10,7 +10,7 @@ use lib.Signed.{_≤ℤ_}
 use Rattle.integers.specs.Integer.{nat, Within}
 use Rattle.integers.specs.Words.{word}
 use Rattle.sheet.specs.Layout.{axesMost, rowsMost, dims, axes, boxes, rules, blockLen, rowLen, shapeOf, offset, size, isOf, kind, dimSet}
-use Rattle.sheet.specs.Layout.{isNonOverlap, rowSet, roomLow, roomHigh, clearance, rows, shapeSet, low, high, hasShape}
+use Rattle.sheet.specs.Layout.{isNonOverlap, isContainment, rowSet, roomLow, roomHigh, clearance, namesDim, rows, shapeSet, low, high, hasShape}
 
 -- a word that is a count, an index or a set
 pub record Count (z : ℤ) : Type 0 where
@@ -43,6 +43,8 @@ pub record Block (block : List ℤ) : Type 0 where
   pub row-sets : (r : ℕ) → r < rules block → Count (rowSet block r)
   pub room-lows : (r d : ℕ) → r < rules block → d < dims block → Within 1000000 (roomLow block r d)
   pub room-highs : (r d : ℕ) → r < rules block → d < dims block → Within 1000000 (roomHigh block r d)
+  pub rooms-ordered : (r d : ℕ) → r < rules block → d < dims block → isContainment block r ≡ true → namesDim block r d ≡ true
+      → roomLow block r d ≤ℤ roomHigh block r d
   pub clearances : (r d : ℕ) → r < rules block → d < dims block → Within 1000000 (clearance block r d)
   pub clearances-from : (r d : ℕ) → r < rules block → d < dims block → isNonOverlap block r ≡ true → pos 0 ≤ℤ clearance block r d
 

@@ -1,10 +1,11 @@
 -- Document 02, T-03: the fill of a room. The rule asked about is of kind 2 and names every dimension; counted are the cells of its room that its
 -- rows cover, each once, and their share in thousandths. A cell is a unit cube with whole corners; it is named by its low corner.
--- That a good placement covers no cell of the rule's rows outside the room, and that the figure is the nearest whole one, is proofs/Fill.antt.
+-- That a good placement covers no cell of the rule's rows outside the room is proofs/Fill.antt; that the figure is the nearest whole one, a half
+-- going up, is proofs/Rounding.antt.
 -- Assumes nothing.
 use mathlib.Core.Bool.{Bool, cond, _&&_}
 use mathlib.Core.List.{List, [], _∷_}
-use Prim.Native.Nat.{ℕ, zero, suc, _+_, _-_, _*_, _/_}
+use Prim.Native.Nat.{ℕ, zero, suc, _+_, _-_, _*_, _/_, _≤_}
 use lib.IntN.{ℤ, pos, _+ℤ_, _-ℤ_}
 use lib.Signed.{leZ, ltZ}
 use Rattle.integers.specs.Integer.{nat}
@@ -54,6 +55,15 @@ module _ (block : List ℤ) where
 
 -- ---- the figure
 
+-- how far apart two numbers are
+unfoldable pub apart : ℕ → ℕ → ℕ
+apart x y = (x - y) + (y - x)
+
+-- f is the whole number nearest to a / n, and the greater of two that are as near
+pub record Nearest (a n f : ℕ) : Type 0 where
+  pub nearest : (g : ℕ) → apart (f * n) a ≤ apart (g * n) a
+  pub greater : (g : ℕ) → apart (g * n) a ≤ apart (f * n) a → g ≤ f
+
 -- a / n, rounded to the nearest whole number, a half going up
 unfoldable pub halfUp : ℕ → ℕ → ℕ
 halfUp a n = (2 * a + n) / (2 * n)
@@ -64,5 +74,5 @@ permille c n = halfUp (1000 * c) n
 
 -- one name that opens every definition above: `unfolding filling`
 unfoldable pub filling : Unit {0}
-unfolding ruleAsked isFillRule roomWidth roomCells cellsFrom boxCovers rowCovers coversCell coveredCells halfUp permille
+unfolding ruleAsked isFillRule roomWidth roomCells cellsFrom boxCovers rowCovers coversCell coveredCells apart halfUp permille
 filling = tt

@@ -6,6 +6,7 @@ pub mod Narrow
 pub mod Settle
 pub mod Relation
 pub mod Fill
+pub mod Cells
 pub mod Refusal
 pub mod Accepted
 pub mod Answer

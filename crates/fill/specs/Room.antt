@@ -1,0 +1,52 @@
+-- What counting the cells of a room leans on, and what it is for a brick of a grid to be a box in the room. Assumes nothing.
+use mathlib.Core.Path.{_≡_}
+use mathlib.Core.Bool.{true}
+use mathlib.Core.List.{List}
+use Prim.Native.Nat.{ℕ, _≤_, _<_}
+use lib.IntN.{ℤ, pos, _+ℤ_}
+use Rattle.sheet.specs.Layout.{dims, size, roomLow, namesRow, ofRow}
+use Rattle.sheet.specs.Placement.{fixed, good, boxStart}
+use Rattle.sheet.specs.Fill.{isFillRule, roomWidth, roomCells}
+use Rattle.sheet.specs.Accepted.{Block, Table}
+use Rattle.words.specs.declared.Place.{Place}
+use Rattle.words.specs.Places.{BoxPlace, RulePlace, RowPlace}
+use Rattle.outline.specs.Outline.{Outline}
+use Rattle.grid.specs.declared.Brick.{Brick}
+use Rattle.grid.specs.Grid.{cellsMost, at}
+
+-- rule r of an accepted sheet is of kind 2 and names every dimension
+pub record FillRoom (block : List ℤ) (r : Place) : Type 0 where
+  pub accepted : Block block
+  pub rule : RulePlace block r
+  pub is-fill : isFillRule block (r .number) ≡ true
+
+-- the numbers are the widths of rule r's room
+abbrev pub IsWidths : List ℤ → ℕ → List ℕ → Type 0
+IsWidths block r widths = (d : ℕ) → d < dims block → at widths d ≡ roomWidth block r d
+
+-- a good placement, whose outline is o, and rule r, whose room's cells are not too many
+pub record Counting (block t o : List ℤ) (r : Place) : Type 0 where
+  pub room : FillRoom block r
+  pub table : Table block t
+  pub outline : Outline block o
+  pub all-fixed : fixed block t ≡ true
+  pub all-good : good block t ≡ true
+  pub some-cells : 1 ≤ roomCells block (r .number)
+  pub few-cells : roomCells block (r .number) ≤ cellsMost
+
+-- row i is one of the rule's
+pub record Named (block t o : List ℤ) (r i : Place) : Type 0 where
+  pub counting : Counting block t o r
+  pub row : RowPlace block t i
+  pub named : namesRow block (r .number) (i .number) ≡ true
+
+-- and b one of its boxes
+pub record NamedBox (block t o : List ℤ) (r i b : Place) : Type 0 where
+  pub of : Named block t o r i
+  pub box : BoxPlace block b
+  pub is : ofRow block t (i .number) (b .number) ≡ true
+
+-- the brick is box b of row i, its places counted from the low corner of rule r's room
+pub record IsBrick (block t : List ℤ) (r i b : ℕ) (x : Brick) : Type 0 where
+  pub from : (d : ℕ) → d < dims block → roomLow block r d +ℤ pos (at (x .from) d) ≡ boxStart block t i b d
+  pub size : (d : ℕ) → d < dims block → pos (at (x .size) d) ≡ size block b d

@@ -21,3 +21,4 @@ pub mod GoodSettled
 pub mod Rounding
 pub mod Fill
 pub mod Cells
+pub mod Counted

@@ -1,11 +1,13 @@
 -- Document 02, T-03: the fill of a room. The rule asked about is of kind 2 and names every dimension; counted are the cells of its room that its
 -- rows cover, each once, and their share in thousandths. A cell is a unit cube with whole corners; it is named by its low corner.
--- That a good placement covers no cell of the rule's rows outside the room is proofs/Fill.antt; that the figure is the nearest whole one, a half
--- going up, is proofs/Rounding.antt.
+-- That a good placement covers no cell of the rule's rows outside the room is proofs/Fill.antt; that each covered cell is counted once,
+-- proofs/Counted.antt; that the figure is the nearest whole one, a half going up, proofs/Rounding.antt.
 -- Assumes nothing.
-use mathlib.Core.Bool.{Bool, cond, _&&_}
+use mathlib.Core.Path.{_≡_}
+use mathlib.Core.Bool.{Bool, true, cond, _&&_}
 use mathlib.Core.List.{List, [], _∷_}
-use Prim.Native.Nat.{ℕ, zero, suc, _+_, _-_, _*_, _/_, _≤_}
+use Prim.Native.Nat.{ℕ, zero, suc, _+_, _-_, _*_, _/_, _≤_, _<_}
+use lib.ListN.{length}
 use lib.IntN.{ℤ, pos, _+ℤ_, _-ℤ_}
 use lib.Signed.{leZ, ltZ}
 use Rattle.integers.specs.Integer.{nat}
@@ -52,6 +54,16 @@ module _ (block : List ℤ) where
 
     unfoldable pub coveredCells : ℕ → ℕ
     coveredCells r = cellsFrom r (coversCell r) (dims block) []
+
+-- ---- each cell once
+
+-- n is the number of the cells that pass f: they are numbered from 0, each once. A cell is a list of k coordinates.
+pub record Counts (k : ℕ) (f : List ℤ → Bool) (n : ℕ) : Type 0 where
+  pub cell : ℕ → List ℤ
+  pub coordinates : (j : ℕ) → j < n → length (cell j) ≡ k
+  pub passes : (j : ℕ) → j < n → f (cell j) ≡ true
+  pub once : (i j : ℕ) → i < n → j < n → cell i ≡ cell j → i ≡ j
+  pub each : (x : List ℤ) → length x ≡ k → f x ≡ true → (j : ℕ) × (j < n) × (cell j ≡ x)
 
 -- ---- the figure
 

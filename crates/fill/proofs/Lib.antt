@@ -1,2 +1,5 @@
 pub mod Asked
+pub mod Arrays
 pub mod Rooms
+pub mod Bricks
+pub mod Covers

@@ -1,12 +1,11 @@
 // The cells of a room that the rows of its rule cover: the boxes of each row are marked in a grid, and the marks are counted, so that a cell
 // that several boxes cover counts once.
 ghost use mathlib.Core.Path.{_≡_};
-ghost use mathlib.Core.Bool.{false, _||_};
-ghost use Prim.Native.Nat.{ℕ, _<_};
-ghost use lib.ListN.{getD};
+ghost use Prim.Native.Nat.{_<_};
+ghost use Rattle.sheet.specs.Layout.{dims};
 ghost use Rattle.sheet.specs.Fill.{roomCells, rowCovers, coversCell, coveredCells};
 ghost use Rattle.sheet.specs.Cells.{cellAt};
-ghost use Rattle.fill.specs.Room.{IsWidths, Counting, Named, NamedBox, IsBrick};
+ghost use Rattle.fill.specs.Room.{IsWidths, Counting, Named, NamedBox, IsPlace, IsBrick, Adds};
 use crate::room;
 use grid::Brick;
 use grid::CELLS;
@@ -15,8 +14,32 @@ use outline::chain;
 use sheet::DIMS;
 use words::Place;
 
-// Box b of row i, its places counted from the room's low corner.
-fn brick_of(block: &[i64], table: &[i64], outline: &[i64; OUTLINE], r: Place, i: Place, b: Place) -> Brick
+// Where box b of row i starts in dimension d, counted from the room's low corner.
+fn place_of(
+    block: &[i64],
+    table: &[i64],
+    outline: &[i64; OUTLINE],
+    r: Place,
+    i: Place,
+    b: Place,
+    d: usize,
+) -> usize
+    requires { ⌜ NamedBox (now block) (now table) (now outline) r i b × (d < dims (now block)) ⌝ }
+    ensures { λ x. ⌜ IsPlace (now (block .entry)) (now (table .entry)) (r .number) (i .number) (b .number) d x ⌝ }
+{
+    let start = words::low_of(block, table, i, d) + words::offset_of(block, b, d);
+    (start - words::room_low(block, r, d)) as usize
+}
+
+// Box b of row i as a brick of the room's grid.
+fn brick_of(
+    block: &[i64],
+    table: &[i64],
+    outline: &[i64; OUTLINE],
+    r: Place,
+    i: Place,
+    b: Place,
+) -> Brick
     requires { ⌜ NamedBox (now block) (now table) (now outline) r i b ⌝ }
     ensures { λ x. ⌜ IsBrick (now (block .entry)) (now (table .entry)) (r .number) (i .number) (b .number) x ⌝ }
 {
@@ -25,8 +48,7 @@ fn brick_of(block: &[i64], table: &[i64], outline: &[i64; OUTLINE], r: Place, i:
     let mut size = [0usize; DIMS];
     let mut d = 0;
     while d < k {
-        let start = words::low_of(block, table, i, d) + words::offset_of(block, b, d);
-        from[d] = (start - words::room_low(block, r, d)) as usize;
+        from[d] = place_of(block, table, outline, r, i, b, d);
         size[d] = words::size_of(block, b, d) as usize;
         d += 1;
     }
@@ -44,9 +66,9 @@ fn mark_row(
     marks: &mut [bool; CELLS],
 )
     requires { ⌜ Named (now block) (now table) (now outline) r i × IsWidths (now block) (r .number) widths ⌝ }
-    ensures { λ _. ⌜ ((m : ℕ) → m < roomCells (now (block .entry)) (r .number) → getD (now (marks .exit)) m false
-        ≡ (getD (now (marks .entry)) m false
-        || rowCovers (now (block .entry)) (now (table .entry)) (i .number) (cellAt (now (block .entry)) (r .number) m))) ⌝ }
+    ensures { λ _. ⌜ Adds (roomCells (now (block .entry)) (r .number))
+        (λ m. rowCovers (now (block .entry)) (now (table .entry)) (i .number) (cellAt (now (block .entry)) (r .number) m))
+        (now (marks .entry)) (now (marks .exit)) ⌝ }
 {
     let k = words::dims_of(block);
     let n = words::boxes_of(block);
@@ -69,9 +91,9 @@ fn mark_rows(
     marks: &mut [bool; CELLS],
 )
     requires { ⌜ Counting (now block) (now table) (now outline) r ⌝ }
-    ensures { λ _. ⌜ ((m : ℕ) → m < roomCells (now (block .entry)) (r .number) → getD (now (marks .exit)) m false
-        ≡ (getD (now (marks .entry)) m false
-        || coversCell (now (block .entry)) (now (table .entry)) (r .number) (cellAt (now (block .entry)) (r .number) m))) ⌝ }
+    ensures { λ _. ⌜ Adds (roomCells (now (block .entry)) (r .number))
+        (λ m. coversCell (now (block .entry)) (now (table .entry)) (r .number) (cellAt (now (block .entry)) (r .number) m))
+        (now (marks .entry)) (now (marks .exit)) ⌝ }
 {
     let widths = room::widths_of(block, r);
     let n = words::rows_of(block, table);
@@ -86,7 +108,13 @@ fn mark_rows(
 }
 
 // How many of the room's n cells are covered.
-pub(crate) fn covered_cells(block: &[i64], table: &[i64], outline: &[i64; OUTLINE], r: Place, n: usize) -> usize
+pub(crate) fn covered_cells(
+    block: &[i64],
+    table: &[i64],
+    outline: &[i64; OUTLINE],
+    r: Place,
+    n: usize,
+) -> usize
     requires { ⌜ Counting (now block) (now table) (now outline) r × (n ≡ roomCells (now block) (r .number)) ⌝ }
     ensures { λ x. ⌜ x ≡ coveredCells (now (block .entry)) (now (table .entry)) (r .number) ⌝ }
 {

@@ -1,15 +1,14 @@
 // The rule asked about and its room: checks 13 and 14.
 ghost use mathlib.Core.Path.{_≡_};
 ghost use mathlib.Core.Bool.{cond};
-ghost use Prim.Native.Nat.{ℕ, _<_};
+ghost use Prim.Native.Nat.{_<_};
 ghost use Rattle.integers.specs.Below.{allBelow};
 ghost use Rattle.sheet.specs.Layout.{dims, namesDim};
 ghost use Rattle.sheet.specs.Fill.{isFillRule, roomWidth, roomCells};
 ghost use Rattle.sheet.specs.Refusal.{noFillRule, badCells};
 ghost use Rattle.sheet.specs.Accepted.{Block};
 ghost use Rattle.words.specs.Places.{RulePlace};
-ghost use Rattle.grid.specs.Grid.{at};
-ghost use Rattle.fill.specs.Room.{FillRoom};
+ghost use Rattle.fill.specs.Room.{FillRoom, IsWidths};
 use grid::CELLS;
 use sheet::DIMS;
 use words::Place;
@@ -76,7 +75,7 @@ pub(crate) fn cells_of(block: &[i64], r: Place) -> usize
 // How many cells wide the room is in each dimension.
 pub(crate) fn widths_of(block: &[i64], r: Place) -> [usize; DIMS]
     requires { ⌜ FillRoom (now block) r ⌝ }
-    ensures { λ x. ⌜ ((d : ℕ) → d < dims (now (block .entry)) → at x d ≡ roomWidth (now (block .entry)) (r .number) d) ⌝ }
+    ensures { λ x. ⌜ IsWidths (now (block .entry)) (r .number) x ⌝ }
 {
     let k = words::dims_of(block);
     let mut widths = [0usize; DIMS];

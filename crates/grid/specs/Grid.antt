@@ -35,13 +35,13 @@ unfoldable pub inLine : ℕ → ℕ → ℕ → Bool
 inLine start n m = leb start m && ltb m (start + n)
 
 -- the places of a brick's lines: one in the first dimension
-unfoldable pub lineSize : Brick → ℕ → ℕ
-lineSize x zero = 1
-lineSize x (suc d) = at (x .size) (suc d)
+unfoldable pub lineSize : List ℕ → ℕ → ℕ
+lineSize size zero = 1
+lineSize size (suc d) = at size (suc d)
 
-abbrev pub lines : ℕ → Brick → ℕ
-lines k x = productBelow k (lineSize x)
+abbrev pub lines : ℕ → List ℕ → ℕ
+lines k size = productBelow k (lineSize size)
 
 -- the first cell of line j
-unfoldable pub lineStart : ℕ → List ℕ → Brick → ℕ → ℕ
-lineStart k widths x j = numberOf k (at widths) (λ d. at (x .from) d + digit (lineSize x) j d)
+unfoldable pub lineStart : ℕ → (widths from size : List ℕ) → ℕ → ℕ
+lineStart k widths from size j = numberOf k (at widths) (λ d. at from d + digit (lineSize size) j d)

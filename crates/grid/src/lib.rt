@@ -17,9 +17,9 @@ pub struct Brick {
     pub size: [usize; DIMS],
 }
 
-// Marks n cells in a line along the first dimension.
-fn mark_line(marks: &mut [bool; CELLS], start: usize, n: usize)
-    requires { ⌜ start + n ≤ cellsMost ⌝ }
+// Marks n cells in a line along the first dimension: lent as a slice, an array tells its length.
+fn mark_line(marks: &mut [bool], start: usize, n: usize)
+    requires { ⌜ start + n ≤ length (now marks) ⌝ }
     ensures { λ _. ⌜ ((m : ℕ) → getD (now (marks .exit)) m false ≡ (getD (now (marks .entry)) m false || inLine start n m)) ⌝ }
 {
     let mut c = 0;
@@ -32,7 +32,7 @@ fn mark_line(marks: &mut [bool; CELLS], start: usize, n: usize)
 // How many lines along the first dimension a brick has.
 fn lines_of(k: usize, widths: [usize; DIMS], brick: Brick) -> usize
     requires { ⌜ Lies k widths brick ⌝ }
-    ensures { λ r. ⌜ r ≡ lines k brick ⌝ }
+    ensures { λ r. ⌜ r ≡ lines k (brick .size) ⌝ }
 {
     let size = brick.size;
     let mut n = 1;
@@ -46,8 +46,8 @@ fn lines_of(k: usize, widths: [usize; DIMS], brick: Brick) -> usize
 
 // The first cell of a brick's line j.
 fn line_start(k: usize, widths: [usize; DIMS], brick: Brick, j: usize) -> usize
-    requires { ⌜ Lies k widths brick × (j < lines k brick) ⌝ }
-    ensures { λ r. ⌜ r ≡ lineStart k widths brick j ⌝ }
+    requires { ⌜ Lies k widths brick ⌝ }
+    ensures { λ r. ⌜ r ≡ lineStart k widths (brick .from) (brick .size) j ⌝ }
 {
     let from = brick.from;
     let size = brick.size;

@@ -2,7 +2,7 @@
 -- sums; the first and the last number that passes. Assumes nothing.
 use mathlib.Core.Path.{_≡_, refl, sym, ap, ap₂, _∙_, subst}
 use mathlib.Core.Logic.{_⊎_, inl, inr, ⊎-elim}
-use mathlib.Core.Bool.{Bool, true, false, not, cond, _&&_, _||_}
+use mathlib.Core.Bool.{Bool, true, false, not, cond, _&&_, _||_, or-comm}
 use mathlib.Core.Option.{Option, none, some}
 use Prim.Native.Nat.{ℕ, zero, suc, _+_, _≤_, _<_, zero-le}
 use native.Mathlib.Nat.{not-suc-le-zero, eq-or-lt-of-le, le-of-suc-le-suc, add-le-add}
@@ -44,6 +44,18 @@ any-zero f = refl
 pub any-more : (n : ℕ) (f : ℕ → Bool) → anyBelow (n + 1) f ≡ (anyBelow n f || f n)
 unfolding anyBelow
 any-more n f = rw add-one
+
+-- numbers that do not pass make no difference, after n and after a test of n
+pub any-past : {n m : ℕ} (f : ℕ → Bool) → n ≤ m → ((i : ℕ) → n ≤ i → i < m → f i ≡ false) → anyBelow m f ≡ anyBelow n f
+unfolding anyBelow
+any-past {n} {m = zero} f h g = let e : n ≡ 0 = omega arith in ap (λ (x : ℕ). anyBelow x f) (sym e)
+any-past {n} {m = suc m} f h g =
+    ⊎-elim (λ e. ap (λ (x : ℕ). anyBelow x f) (sym e))
+    (λ l. ap₂ _||_ (any-past {n = n} {m = m} f (le-of-suc-le-suc l) (λ i p q. g i p (omega arith))) (g m (le-of-suc-le-suc l) (omega arith))
+    ∙ or-comm (anyBelow n f) false) (eq-or-lt-of-le h)
+
+pub any-next : {n m : ℕ} (f : ℕ → Bool) → n < m → ((i : ℕ) → n < i → i < m → f i ≡ false) → anyBelow m f ≡ (anyBelow n f || f n)
+any-next {n} f h g = any-past {n = n + 1} f (omega arith) (λ i p q. g i (omega arith) q) ∙ any-more n f
 
 -- ---- what a passed test says, and a test from its cases
 pub all-at : {n : ℕ} (f : ℕ → Bool) → allBelow n f ≡ true → (i : ℕ) → i < n → f i ≡ true

@@ -4,7 +4,7 @@ use mathlib.Core.Path.{_≡_, refl, sym, ap, ap₂, _∙_}
 use mathlib.Core.Logic.{_⊎_, inl, inr, ⊎-elim}
 use Prim.Native.Nat.{ℕ, zero, suc, _+_, _*_, _/_, _%_, _≤_, _<_}
 use native.Mathlib.Nat.{not-suc-le-zero, le-refl, le-trans, suc-mul, mul-zero, mul-suc, add-mul, mul-comm, mul-assoc, mul-right-comm}
-use native.Mathlib.Nat.{zero-mul, mul-le-mul-right, one-le-mul, le-mul-of-pos-right, le-of-suc-le-suc, eq-or-lt-of-le}
+use native.Mathlib.Nat.{zero-mul, mul-le-mul, mul-le-mul-right, one-le-mul, le-mul-of-pos-right, le-of-suc-le-suc, eq-or-lt-of-le}
 use native.Mathlib.Nat.{mod-lt, mod-eq-of-lt, mod-add-div', div-eq-of-lt, add-mul-div-right, add-mul-mod-self-right}
 use native.Mathlib.Numerals.{add-one}
 use native.Mathlib.Omega.{arith}
@@ -55,7 +55,13 @@ sum-product a (suc b) g =
     ap (λ (x : ℕ). sumBelow x g) (mul-suc a b) ∙ sum-add (a * b) a g
     ∙ ap₂ _+_ (sum-product a b g) (sum-same {n = a} (λ m l. ap g (omega (arith, mul-comm a b))))
 
--- ---- products of numbers from 1 up
+-- ---- products
+pub product-each : {n : ℕ} {f g : ℕ → ℕ} → ((i : ℕ) → i < n → f i ≤ g i) → productBelow n f ≤ productBelow n g
+unfolding productBelow
+product-each {n = zero} h = le-refl 1
+product-each {n = suc n} h = mul-le-mul (product-each {n = n} (λ i l. h i (omega arith))) (h n (omega arith))
+
+-- of numbers from 1 up
 module _ {w : ℕ → ℕ} where
   pub product-some : {k : ℕ} → ((d : ℕ) → d < k → 1 ≤ w d) → 1 ≤ productBelow k w
   unfolding productBelow
@@ -70,7 +76,7 @@ module _ {w : ℕ → ℕ} where
       (λ less. le-trans (product-le {j = j} {k = k} (λ d m. h d (omega arith)) (omega arith)) (le-mul-of-pos-right _ (h k (omega arith))))
       (last-or {i = j} {n = suc k} (omega arith))
 
--- ---- products of any numbers: more factors give 0, or no less
+-- of any numbers: more factors give 0, or no less
 pub product-past : {j : ℕ} (k : ℕ) (w : ℕ → ℕ) → j ≤ k → (productBelow k w ≡ 0) ⊎ (productBelow j w ≤ productBelow k w)
 unfolding productBelow
 product-past {j} zero w h = let e : j ≡ 0 = omega arith in inr (rw e (le-refl 1))
@@ -83,6 +89,10 @@ product-past {j} (suc k) w h = ⊎-elim (λ e. inr (rw e (le-refl _))) (λ l. st
     step (suc n) (inr l) = inr (le-trans l (le-mul-of-pos-right (productBelow k w) (omega arith)))
 
 -- ---- the digits of a number
+pub digit-same : {w w' : ℕ → ℕ} (m : ℕ) {d : ℕ} → ((e : ℕ) → e ≤ d → w e ≡ w' e) → digit w m d ≡ digit w' m d
+unfolding digit
+digit-same m {d} h = ap₂ (λ (p b : ℕ). m / p % b) (product-same {n = d} (λ e l. h e (omega arith))) (h d (le-refl d))
+
 pub digit-below : (w : ℕ → ℕ) (m d : ℕ) → 1 ≤ w d → digit w m d < w d
 unfolding digit
 digit-below w m d h = mod-lt (m / productBelow d w) h
@@ -151,6 +161,16 @@ pub number-below : {k : ℕ} {w c : ℕ → ℕ} → ((d : ℕ) → d < k → c 
 unfolding numberOf sumBelow productBelow
 number-below {k = zero} h = le-refl 1
 number-below {k = suc k} h = place-below (number-below {k = k} (λ d l. h d (omega arith))) (h k (omega arith))
+
+-- a first digit that is more by x makes a number that is more by x
+pub number-first : (w c e : ℕ → ℕ) (x : ℕ) {k : ℕ} → 1 ≤ k → e 0 ≡ c 0 + x → ((d : ℕ) → suc d < k → e (suc d) ≡ c (suc d))
+    → numberOf k w e ≡ numberOf k w c + x
+unfolding numberOf sumBelow
+number-first w c e x {k = zero} some first rest = absurd (not-suc-le-zero some)
+number-first w c e x {k = suc zero} some first rest = simp product-zero (omega arith)
+number-first w c e x {k = suc (suc k)} some first rest =
+    let before = number-first w c e x {k = suc k} (omega arith) first (λ d l. rest d (omega arith)) in
+    omega (arith, before, ap (λ (y : ℕ). y * productBelow (suc k) w) (rest k (omega arith)))
 
 pub number-digits : {k : ℕ} {w c : ℕ → ℕ} → ((d : ℕ) → d < k → c d < w d) → (d : ℕ) → d < k → digit w (numberOf k w c) d ≡ c d
 unfolding numberOf sumBelow

@@ -51,7 +51,7 @@ module _ (block t : List ℤ) (i : ℕ) (table : Table block t) (from : 1 ≤ i)
   unfolding hasShape hasOnly
   held = only-held (shapeSet block t i) (suc (trailingZeros 32 set)) shape
 
-  sole : (s : ℕ) → hasShape block t i s ≡ true → s ≡ suc (trailingZeros 32 set)
+  pub sole : (s : ℕ) → hasShape block t i s ≡ true → s ≡ suc (trailingZeros 32 set)
   unfolding hasShape hasOnly
   sole s e = same-only (shapeSet block t i) shape e
 

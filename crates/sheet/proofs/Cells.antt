@@ -27,12 +27,12 @@ factors zero b h = absurd (omega (arith, zero-mul b))
 factors (suc a) zero h = absurd (omega (arith, mul-zero (suc a)))
 factors (suc a) (suc b) h = (omega arith, omega arith)
 
-product-each : (w : ℕ → ℕ) {k : ℕ} → 1 ≤ productBelow k w → (d : ℕ) → d < k → 1 ≤ w d
+factors-some : (w : ℕ → ℕ) {k : ℕ} → 1 ≤ productBelow k w → (d : ℕ) → d < k → 1 ≤ w d
 unfolding productBelow
-product-each w {k = zero} h d l = absurd (not-suc-le-zero l)
-product-each w {k = suc k} h d l =
+factors-some w {k = zero} h d l = absurd (not-suc-le-zero l)
+factors-some w {k = suc k} h d l =
     let p = factors (productBelow k w) (w k) h in
-    ⊎-elim (λ e. rw e (p .1)) (λ m. product-each w {k = k} (p .0) d m) (last-or l)
+    ⊎-elim (λ e. rw e (p .1)) (λ m. factors-some w {k = k} (p .0) d m) (last-or l)
 
 sum-alike : (n a : ℕ) → sumBelow n (λ c. a) ≡ a * n
 unfolding sumBelow
@@ -55,7 +55,7 @@ module _ (block : List ℤ) (r : ℕ) where
 
   pub widths-some : 1 ≤ roomCells block r → (d : ℕ) → d < dims block → 1 ≤ roomWidth block r d
   unfolding roomCells
-  widths-some h = product-each (roomWidth block r) h
+  widths-some h = factors-some (roomWidth block r) h
 
   module _ (f : List ℤ → Bool) where
     abbrev passes : List ℤ → ℕ

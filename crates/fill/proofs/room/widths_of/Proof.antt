@@ -5,26 +5,25 @@ use Prim.Native.Nat.{ℕ, _-_, _≤_, _<_}
 use native.Mathlib.Numerals.{add-one}
 use native.Mathlib.Omega.{arith}
 use borrow.Author.Needs.{needs}
+use denote.Ref.{now}
 use lib.ListN.{length, set, length-set}
 use lib.Seq.{getD-set-same, getD-set-other}
 use Rattle.integers.proofs.Below.{last-or}
-use Rattle.sheet.specs.Fill.{roomWidth}
 use Rattle.grid.specs.Grid.{at}
+use Rattle.fill.specs.Room.{IsWidth}
+use Rattle.fill.proofs.Arrays.{Holds, one-more}
 use Rattle.fill.proofs.room.widths_of.Statement.{statement}
 use Rattle.fill.proofs.room.widths_of.Tie as tie
 
 abbrev Inv-loop : tie.InvT-loop
 Inv-loop block r k widths₀ d₀ widths d =
-    (d ≤ k) × (length widths ≡ 4) × ((e : ℕ) → e < d → at widths e ≡ roomWidth block (r .number) e)
+    (d ≤ k) × (length widths ≡ 4) × Holds (IsWidth block (r .number)) widths d
 
 abbrev μ-loop : tie.MeasureT-loop
 μ-loop block r k widths₀ d₀ widths d = k - d
 
 few : (c : tie.After-dims-of Inv-loop μ-loop) → c .dims-of .result ≤ 4
 few c = let k = c .before .pre .accepted .head .few-dims in omega (arith, c .dims-of .ensures)
-
-below-not : {e d : ℕ} → e < d → e ≡ d → ⊥
-below-not h q = omega arith
 
 dims-of-requires : tie.Need-dims-of-requires Inv-loop μ-loop
 dims-of-requires c κs = c .pre .accepted .head
@@ -50,17 +49,13 @@ loop-less c = search needs
 loop-again : tie.Need-loop-again Inv-loop μ-loop
 loop-again c =
     let l = c .before .before in
+    let a = l .before .before .args in
     let k = few (l .before) in
     let inv = l .loop .inv in (
       omega arith,
       simp length-set (inv .1),
-      λ e h.
-          ⊎-elim
-          (λ q. ap (at (set (l .loop .widths) (l .loop .d) (c .width-of .result))) q
-          ∙ getD-set-same (l .loop .widths) (l .loop .d) _ 0 (omega (arith, inv .1, k, c .before .loop-test .taken))
-          ∙ c .width-of .ensures ∙ ap (roomWidth _ _) (sym q))
-          (λ b. getD-set-other (l .loop .widths) (l .loop .d) e _ 0 (below-not b) ∙ inv .2 e b)
-          (last-or (subst (λ (n : ℕ). e < n) (add-one (l .loop .d)) h)),
+      one-more (IsWidth (now (a .block)) (a .r .number)) (l .loop .widths) (omega (arith, inv .1, k, c .before .loop-test .taken)) (inv .2)
+          (c .width-of .ensures),
     )
 
 returns : tie.Need-returns Inv-loop μ-loop

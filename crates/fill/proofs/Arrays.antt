@@ -1,6 +1,6 @@
 -- An array that is written place by place: what holds of the places below d, and of the one written, holds of one place more (`one-more`).
 -- Assumes nothing.
-use mathlib.Core.Path.{_≡_, sym, subst}
+use mathlib.Core.Path.{sym, subst}
 use mathlib.Core.Logic.{⊎-elim}
 use mathlib.Core.List.{List}
 use Prim.Native.Nat.{ℕ, _+_, _<_}

@@ -6,6 +6,7 @@ use Prim.Native.Nat.{_≤_, _<_}
 use native.Mathlib.Omega.{arith}
 use lib.IntN.{ℤ, pos}
 use Rattle.integers.specs.Integer.{nat, within}
+use Rattle.integers.proofs.Booleans.{not-false, and-true}
 use Rattle.integers.proofs.Ranges.{nat-from}
 use Rattle.sheet.specs.Layout.{rules}
 use Rattle.sheet.specs.Fill.{ruleAsked, isFillRule}
@@ -33,3 +34,7 @@ module _ (block : List ℤ) (rule : ℤ) where
   pub one-asked : within (pos 1) (pos (rules block)) rule ≡ true → noFillRule block rule ≡ not (isFillRule block (ruleAsked rule))
   unfolding noFillRule
   one-asked e = ap (λ (b : Bool). not (b && isFillRule block (ruleAsked rule))) e
+
+  pub asked : noFillRule block rule ≡ false → (within (pos 1) (pos (rules block)) rule ≡ true) × (isFillRule block (ruleAsked rule) ≡ true)
+  unfolding noFillRule
+  asked e = and-true (not-false e)

@@ -1,9 +1,9 @@
 -- A box in the room: where it starts and ends (`start-near`, `from-some`), that its brick lies in the grid (`brick-lies`) and has the
 -- cells that the box covers (`brick-covers`). Assumes nothing.
-use mathlib.Core.Path.{_≡_, refl, sym, ap, ap₂, _∙_, subst}
-use mathlib.Core.Bool.{Bool, true, false, _&&_, _||_}
+use mathlib.Core.Path.{_≡_, refl, ap, ap₂, _∙_, subst}
+use mathlib.Core.Bool.{Bool, false, _&&_, _||_}
 use mathlib.Core.List.{List}
-use Prim.Native.Nat.{ℕ, _+_, _≤_, _<_}
+use Prim.Native.Nat.{ℕ, _+_, _<_}
 use native.Mathlib.Omega.{arith}
 use lib.ListN.{getD}
 use lib.Dec.{leb, ltb}
@@ -12,12 +12,10 @@ use lib.Signed.{_≤ℤ_, leZ, ltZ}
 use borrow.Author.Tests.{leb-true, le-leb, ltb-true, lt-ltb}
 use Rattle.integers.specs.Integer.{Within}
 use Rattle.integers.specs.Below.{productBelow}
-use Rattle.integers.specs.Words.{word}
-use Rattle.integers.specs.Digits.{digit}
 use Rattle.integers.proofs.Booleans.{both-ways}
 use Rattle.integers.proofs.Below.{all-same}
 use Rattle.integers.proofs.Digits.{product-same, digit-same}
-use Rattle.integers.proofs.Ints.{ints, lin, v, _⊕_, _⊖_, sum, diff, disjoint}
+use Rattle.integers.proofs.Ints.{ints, lin, v, _⊕_, _⊖_, sum}
 use Rattle.integers.proofs.Ranges.{nat-diff}
 use Rattle.sheet.specs.Layout.{dims, offset, size, low, roomLow, roomHigh}
 use Rattle.sheet.specs.Placement.{boxStart, boxEnd}

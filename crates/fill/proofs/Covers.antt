@@ -1,27 +1,28 @@
 -- Marks that are added box by box and row by row: the boxes of a row's one shape are the row's (`own-box`), the boxes and rows between make no
 -- difference, and all of them are what the row, or the rule's rows, cover. Assumes nothing.
-use mathlib.Core.Path.{_≡_, sym, ap, ap₂, _∙_, subst}
-use mathlib.Core.Bool.{Bool, true, false, _&&_, _||_, or-assoc, or-comm}
+use mathlib.Core.Path.{_≡_, sym, ap, _∙_}
+use mathlib.Core.Bool.{Bool, true, false, cond, _&&_, _||_, or-assoc, or-comm}
 use mathlib.Core.List.{List}
 use Prim.Native.Nat.{ℕ, suc, _+_, _≤_, _<_}
 use native.Mathlib.Numerals.{add-one}
-use native.Mathlib.Omega.{arith}
 use lib.Count.{trailingZeros}
 use lib.ListN.{getD}
 use lib.IntN.{ℤ, pos}
 use Rattle.integers.specs.Integer.{nat, eqZ}
-use Rattle.integers.specs.Below.{anyBelow}
+use Rattle.integers.specs.Below.{anyBelow, sumBelow}
 use Rattle.integers.proofs.Booleans.{both-ways}
 use Rattle.integers.proofs.Below.{any-zero, any-more, any-next, false-any, upto-at}
+use Rattle.integers.proofs.Digits.{sum-same}
 use Rattle.integers.proofs.Ints.{eqZ-eq, eq-eqZ}
 use Rattle.integers.proofs.Ranges.{pos-nat}
 use Rattle.sheet.specs.Layout.{boxes, shapeOf, isOf, namesRow, rows, shapeSet, hasShape, ofRow}
 use Rattle.sheet.specs.Placement.{rowFixed, fixed}
-use Rattle.sheet.specs.Fill.{roomCells, boxCovers, rowCovers, coversCell}
+use Rattle.sheet.specs.Fill.{roomCells, boxCovers, rowCovers, coversCell, coveredCells}
 use Rattle.sheet.specs.Cells.{cellAt}
+use Rattle.sheet.proofs.Cells.{covered-numbered}
 use Rattle.words.specs.declared.Place.{Place}
 use Rattle.placement.proofs.OneShape.{shape-below, held, sole}
-use Rattle.fill.specs.Room.{Counting, Named, Adds}
+use Rattle.fill.specs.Room.{Named, Adds}
 
 -- ---- marks
 module _ {n : ℕ} {old : List Bool} where
@@ -96,15 +97,16 @@ module _ (block t : List ℤ) (r : ℕ) where
   pub rows-first : {old : List Bool} → Adds (roomCells block r) (rowsTo 0) old old
   rows-first = adds-none (λ m. any-zero (row-covers m))
 
-  -- row n + 1, where the rule names it and where it does not
-  pub rows-named : (n : ℕ) {old marks new : List Bool} → namesRow block r (n + 1) ≡ true → Adds (roomCells block r) (rowsTo n) old marks
-      → Adds (roomCells block r) (λ m. rowCovers block t (n + 1) (cellAt block r m)) marks new → Adds (roomCells block r) (rowsTo (n + 1)) old new
-  rows-named n e a more = adds-same (λ m h. ap (λ (b : Bool). rowsTo n m || b) (named m) ∙ sym (any-more n (row-covers m))) (adds-more a more)
+  -- row n + 1, where the rule names it and where it does not; i is its number as the code holds it
+  pub rows-named : (n : ℕ) {i : ℕ} {old marks new : List Bool} → i ≡ n + 1 → namesRow block r (n + 1) ≡ true
+      → Adds (roomCells block r) (rowsTo n) old marks → Adds (roomCells block r) (λ m. rowCovers block t i (cellAt block r m)) marks new
+      → Adds (roomCells block r) (rowsTo (n + 1)) old new
+  rows-named n {i} q e a more = adds-same (λ m h. ap (λ (b : Bool). rowsTo n m || b) (named m) ∙ sym (any-more n (row-covers m))) (adds-more a more)
     where
-      named : (m : ℕ) → rowCovers block t (n + 1) (cellAt block r m) ≡ row-covers m n
+      named : (m : ℕ) → rowCovers block t i (cellAt block r m) ≡ row-covers m n
       named m =
-          sym (ap (λ (b : Bool). b && rowCovers block t (suc n) (cellAt block r m)) (ap (namesRow block r) (sym (add-one n)) ∙ e)
-          ∙ ap (λ (i : ℕ). rowCovers block t i (cellAt block r m)) (sym (add-one n)))
+          ap (λ (j : ℕ). rowCovers block t j (cellAt block r m)) (q ∙ add-one n)
+          ∙ sym (ap (λ (b : Bool). b && rowCovers block t (suc n) (cellAt block r m)) (ap (namesRow block r) (sym (add-one n)) ∙ e))
 
   pub rows-other : (n : ℕ) {old new : List Bool} → namesRow block r (n + 1) ≡ false → Adds (roomCells block r) (rowsTo n) old new
       → Adds (roomCells block r) (rowsTo (n + 1)) old new
@@ -118,3 +120,14 @@ module _ (block t : List ℤ) (r : ℕ) where
       → Adds (roomCells block r) (λ m. coversCell block t r (cellAt block r m)) old new
   unfolding coversCell
   rows-all e a = adds-same (λ m h. ap (λ (n : ℕ). rowsTo n m) e) a
+
+  -- what is counted at the end, of marks that were none
+  pub marks-counted : {n c : ℕ} {old new : List Bool} → 1 ≤ roomCells block r → n ≡ roomCells block r
+      → ((m : ℕ) → m < roomCells block r → getD old m false ≡ false)
+      → Adds (roomCells block r) (λ m. coversCell block t r (cellAt block r m)) old new
+      → c ≡ sumBelow n (λ m. cond (getD new m false) 1 0) → c ≡ coveredCells block t r
+  marks-counted {new} some q none a e =
+      e ∙ ap (λ (n : ℕ). sumBelow n (λ m. cond (getD new m false) 1 0)) q
+      ∙ sum-same (λ m l. ap (λ (b : Bool). cond {A = ℕ} b 1 0) (a .marks m l
+      ∙ ap (λ (b : Bool). b || coversCell block t r (cellAt block r m)) (none m l)))
+      ∙ sym (covered-numbered block t r some)

@@ -3,3 +3,4 @@ pub mod Arrays
 pub mod Rooms
 pub mod Bricks
 pub mod Covers
+pub mod Answers

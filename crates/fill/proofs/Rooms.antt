@@ -80,3 +80,15 @@ module _ (block : List ℤ) (r : ℕ) where
       by : (b : Bool) → badCells block r ≡ b → roomCells block r ≡ cond b 0 (roomCells block r)
       by false e = refl
       by true e = ⊎-elim (λ l. clash e (few l h)) (λ l. omega (arith, l)) (below-or 0 (roomCells block r))
+
+  -- what the number found tells: 0 that check 14 applies, any other that it does not, and the cells
+  pub found-none : {n : ℕ} → n ≡ cond (badCells block r) 0 (roomCells block r) → n ≡ 0 → badCells block r ≡ true
+  found-none {n} e z =
+      ⊎-elim (λ b. b) (λ b. let q : n ≡ roomCells block r = rw b at e in absurd (omega (arith, counted b .0, q, z))) (decide (badCells block r))
+
+  pub found-some : {n : ℕ} → n ≡ cond (badCells block r) 0 (roomCells block r) → (n ≡ 0 → ⊥)
+      → (badCells block r ≡ false) × (n ≡ roomCells block r) × (1 ≤ n) × (n ≤ 4096)
+  found-some {n} e f =
+      ⊎-elim (λ b. let q : n ≡ 0 = rw b at e in absurd (f q))
+      (λ b. let q : n ≡ roomCells block r = rw b at e in let w = counted b in (b, q, omega (arith, w .0, q), omega (arith, w .1, q)))
+      (decide (badCells block r))

@@ -1,14 +1,12 @@
 -- `fill::cells::brick_of` meets its contract: the places below d are the box's. Assumes nothing.
-use mathlib.Core.Path.{_≡_, refl, ap, _∙_}
+use mathlib.Core.Path.{_≡_, ap, _∙_}
 use Prim.Native.Nat.{ℕ, _-_, _≤_, _<_}
 use native.Mathlib.Omega.{arith}
 use borrow.Author.Needs.{needs}
 use denote.Ref.{now}
-use lib.IntN.{ℤ, pos, natAbs}
-use lib.Signed.{_≤ℤ_}
+use lib.IntN.{pos}
 use lib.ListN.{length, length-set}
-use Rattle.integers.specs.Integer.{Within}
-use Rattle.integers.proofs.Machine.{within-by, cast-ok, abs-pos}
+use Rattle.integers.proofs.Machine.{cast-ok}
 use Rattle.integers.proofs.Ints.{ints}
 use Rattle.integers.proofs.Ranges.{pos-nat}
 use Rattle.sheet.specs.Layout.{dims}

@@ -1,6 +1,6 @@
 -- `fill::cells::mark_row` meets its contract: the cells of the row's boxes before b are marked, and b is the next of them. Assumes nothing.
 use mathlib.Core.Path.{_≡_, sym, ap, _∙_}
-use mathlib.Core.Bool.{true, false}
+use mathlib.Core.Bool.{true}
 use Prim.Native.Nat.{ℕ, _+_, _-_, _≤_, _<_}
 use native.Mathlib.Omega.{arith}
 use denote.Ref.{now}
@@ -118,8 +118,8 @@ loop-again c =
       omega (arith, n),
       λ h. sym (own s (rw (← n) h)) ∙ f .2 (rw (← n) h),
       boxes-next _ _ _ _ (is-own l) (f .0) (λ b p q. sym (own s (omega (arith, few, q))) ∙ f .3 b p q) (l .before .loop .inv .2)
-      (brick-adds (named-box (x .before)) _ _ (top l .pre .1) (x .brick-of .ensures) (l .before .before .before .before .before .dims-of .ensures)
-      (x .before .box-place .ensures .1) (k .mark-brick .ensures)),
+          (brick-adds (named-box (x .before)) _ _ (top l .pre .1) (x .brick-of .ensures) (l .before .before .before .before .before .dims-of .ensures)
+          (x .before .box-place .ensures .1) (k .mark-brick .ensures)),
     )
 
 returns : tie.Need-returns Inv-loop μ-loop

@@ -1,15 +1,10 @@
 -- `fill::room::widths_of` meets its contract: the numbers below d are the room's widths. Assumes nothing.
-use mathlib.Core.Path.{_≡_, sym, ap, _∙_, subst}
-use mathlib.Core.Logic.{⊎-elim}
-use Prim.Native.Nat.{ℕ, _-_, _≤_, _<_}
-use native.Mathlib.Numerals.{add-one}
+use mathlib.Core.Path.{_≡_}
+use Prim.Native.Nat.{_-_, _≤_}
 use native.Mathlib.Omega.{arith}
 use borrow.Author.Needs.{needs}
 use denote.Ref.{now}
-use lib.ListN.{length, set, length-set}
-use lib.Seq.{getD-set-same, getD-set-other}
-use Rattle.integers.proofs.Below.{last-or}
-use Rattle.grid.specs.Grid.{at}
+use lib.ListN.{length, length-set}
 use Rattle.fill.specs.Room.{IsWidth}
 use Rattle.fill.proofs.Arrays.{Holds, one-more}
 use Rattle.fill.proofs.room.widths_of.Statement.{statement}

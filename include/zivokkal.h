@@ -50,8 +50,11 @@
      10   the shape asked about is not in that row's set
      11   the dimension asked about is outside 0 to k - 1
      12   the placement is not fixed: some range has several numbers or some set several shapes
+     13   the rule asked about is outside 1 to R, is of kind 1 or does not name every dimension
+     14   that rule's room has no cells or more than 4,096
+     15   the placement is not good
 
-   2 to 12 are refusals; the first that applies is given, in this order. 1 is the refusal of a text and
+   2 to 15 are refusals; the first that applies is given, in this order. 1 is the refusal of a text and
    is never given here. Every function makes the checks 2 to 8 itself, so zk_refusal need not be called
    first.
 
@@ -67,7 +70,8 @@
    may run in different threads at once, also over one block. No function recurses. Nothing is proved
    about the stack: where it was measured zk_settle, zk_narrow, zk_least and zk_greatest used 62 to 66 KB
    of it (most of it a list of what can forbid a row, and an outline of the block), zk_check_placement and
-   zk_point_allowed 13 KB, the others less than 1 KB; 128 KB leave room for changes.
+   zk_point_allowed 13 KB, zk_fill as much and 4 KB for its marks, the others less than 1 KB; 128 KB leave
+   room for changes.
 
    Time: every call ends, but there is no limit to it that helps in practice, and a call cannot be
    interrupted. Ordinary sheets settle in microseconds to milliseconds. Beside document 000's filtering in
@@ -161,6 +165,23 @@ struct zk_standing {
 
 struct zk_standing zk_relation(const int64_t *block, size_t block_len, const int64_t *table, size_t table_len,
                                int64_t row, int64_t other, int64_t dimension);
+
+/* How much of a room is filled in a good placement. The room is that of a rule of kind 2 that names every
+   dimension; rule is the rule's position among all rules of the block, of both kinds, from 1. The room's
+   cells are the unit cubes of the grid in it, width times width over its dimensions. A cell is covered when
+   it lies in a box of a row that the rule names, and is counted once, in however many boxes it lies. Rows
+   that the rule does not name are not counted.
+   0: cells is how many cells are covered, permille how many thousandths of the room's cells they are, to the
+   nearest whole number, a half going up. Never -1. Refusals 2 to 8 and 12 to 15; 12 and 15 look at the whole
+   placement, 15 at every rule of it. When refused cells and permille are 0. */
+struct zk_share {
+    int64_t finding;
+    int64_t cells;
+    int64_t permille;
+};
+
+struct zk_share zk_fill(const int64_t *block, size_t block_len, const int64_t *table, size_t table_len,
+                        int64_t rule);
 
 /* Where the row stands in its table: table[start] to table[start + length - 1], its shape set first. When
    refused both are 0, and zk_row_refusal gives the refusal. */

@@ -123,6 +123,12 @@ impl Row {
     pub fn has_one_shape(&self) -> bool {
         self.set & (self.set - 1) == 0
     }
+
+    /// Its shape, from 0, where it has one.
+    #[inline(always)]
+    pub fn shape(&self) -> usize {
+        self.set.trailing_zeros() as usize
+    }
 }
 
 pub type Rows = [Row; MAX_ROWS];
@@ -213,7 +219,7 @@ impl Decoded {
     /// of the row that is clear of the shape's hull is passed over before the shape's boxes.
     #[inline(always)]
     pub fn forbidding_pair(&self, s: usize, row: &Row, rule: &Apart, p: &Point) -> Option<Area> {
-        for c in self.boxes_of(row.set.trailing_zeros() as usize) {
+        for c in self.boxes_of(row.shape()) {
             let core = c.core(row, rule);
             if !self.hulls[s].hits(p, &core) {
                 continue;

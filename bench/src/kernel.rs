@@ -25,8 +25,17 @@ pub struct Standing {
     pub relation: i64,
 }
 
+/// How much of a room is covered: finding 0, the cells and their thousandths, otherwise the refusal, 0 and 0.
+#[repr(C)]
+#[derive(Clone, Copy, Debug, PartialEq)]
+pub struct Share {
+    pub finding: i64,
+    pub cells: i64,
+    pub permille: i64,
+}
+
 mod c {
-    use super::{Bound, Span, Standing};
+    use super::{Bound, Share, Span, Standing};
 
     // A run is its first word and its length: `block` and `b`, `table` and `t`.
     type Words = *const i64;
@@ -53,6 +62,7 @@ mod c {
         pub fn zk_settle(block: Words, b: usize, table: *mut i64, t: usize) -> i64;
         pub fn zk_row_span(block: Words, b: usize, table: Words, t: usize, row: i64) -> Span;
         pub fn zk_relation(block: Words, b: usize, table: Words, t: usize, row: i64, other: i64, dim: i64) -> Standing;
+        pub fn zk_fill(block: Words, b: usize, table: Words, t: usize, rule: i64) -> Share;
     }
 }
 
@@ -110,4 +120,8 @@ pub fn row_span(block: &[i64], table: &[i64], row: i64) -> Span {
 
 pub fn relation(block: &[i64], table: &[i64], row: i64, other: i64, dimension: i64) -> Standing {
     unsafe { c::zk_relation(block.as_ptr(), block.len(), table.as_ptr(), table.len(), row, other, dimension) }
+}
+
+pub fn fill(block: &[i64], table: &[i64], rule: i64) -> Share {
+    unsafe { c::zk_fill(block.as_ptr(), block.len(), table.as_ptr(), table.len(), rule) }
 }

@@ -4,7 +4,11 @@
 
 mod against;
 mod brute;
+#[cfg(kernel)]
+mod calls;
 mod decode;
+#[cfg(kernel)]
+mod fill;
 mod generate;
 #[cfg(kernel)]
 mod kernel;
@@ -53,12 +57,14 @@ fn main() -> ExitCode {
         ["--quick", "--only", start] => table(&quick, start),
         #[cfg(kernel)]
         ["--relation"] => relation::table(),
+        #[cfg(kernel)]
+        ["--fill"] => fill::table(),
         ["--against", this, other] => against::table(this, other),
         ["--selftest"] => selftest::run(40_000),
         ["--selftest", count] => selftest::run(count.parse().expect("a number of sheets")),
         _ => {
             eprintln!(
-                "words: [--quick] [--only START], or --relation, or --against LIBRARY LIBRARY, or --selftest [COUNT]"
+                "words: [--quick] [--only START], or --relation, or --fill, or --against LIBRARY LIBRARY, or --selftest [COUNT]"
             );
             ExitCode::from(2)
         }

@@ -38,7 +38,7 @@ fn each_pair<T>(
 ) -> Option<T> {
     for rule in sheet.aparts.iter().filter(|rule| rule.rows >> i & 1 == 1) {
         for j in (0..sheet.n).filter(|&j| j != i && rule.rows >> j & 1 == 1 && rows[j].has_one_shape()) {
-            for c in sheet.boxes_of(rows[j].set.trailing_zeros() as usize) {
+            for c in sheet.boxes_of(rows[j].shape()) {
                 let core = c.core(&rows[j], rule);
                 for b in sheet.boxes_of(s) {
                     let answer = found(b, &core);

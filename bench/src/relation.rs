@@ -1,5 +1,6 @@
 //! How two rows of a placement stand to each other (document 02, T-01), in plain Rust, and the kernel beside it.
 
+use crate::calls::{nanoseconds, print_ratios};
 use crate::decode::FAR;
 use crate::sheet::{box_len, refusal, row_len};
 use std::cmp::Ordering::{Equal, Greater, Less};
@@ -11,19 +12,24 @@ pub fn relation(block: &[i64], table: &[i64], row: i64, other: i64, dimension: i
         return (refused, 0);
     }
     let k = block[0] as usize;
-    let mut rows = table.chunks_exact(row_len(k));
-    let there = 1..=rows.len() as i64;
+    let there = 1..=(table.len() / row_len(k)) as i64;
     if !there.contains(&row) || !there.contains(&other) {
         return (9, 0);
     }
     if !(0..k as i64).contains(&dimension) {
         return (11, 0);
     }
-    if !rows.all(|row| row[0].count_ones() == 1 && row[1..].chunks_exact(2).all(|range| range[0] == range[1])) {
+    if !is_fixed(block, table) {
         return (12, 0);
     }
     let extent = |row: i64| extent(block, &table[(row as usize - 1) * row_len(k)..], dimension as usize);
     (0, between(extent(row), extent(other)))
+}
+
+/// Whether each row of an accepted sheet has one shape and one point.
+pub fn is_fixed(block: &[i64], table: &[i64]) -> bool {
+    let mut rows = table.chunks_exact(row_len(block[0] as usize));
+    rows.all(|row| row[0].count_ones() == 1 && row[1..].chunks_exact(2).all(|range| range[0] == range[1]))
 }
 
 /// From the lowest start to the highest end of the row's boxes.
@@ -67,18 +73,19 @@ pub fn table() -> std::process::ExitCode {
                 let sheet = line_sheet(&line, STYLES[1], 1);
                 let placed = first_placement(&sheet.table, dims);
                 let block = &sheet.block[..];
-                let checks = |_, _, _| kernel::refusal(block, &placed);
-                let proved = |i, j, d| kernel::relation(block, &placed, i, j, d).relation;
-                let plain = |i, j, d| relation(block, &placed, i, j, d).1;
-                let times = nanoseconds(rows as i64, dims as i64, &[&checks, &proved, &plain]);
+                let all = |call: &dyn Fn(i64, i64, i64) -> i64| for_all(rows as i64, dims as i64, call);
+                let checks = || all(&|_, _, _| kernel::refusal(block, &placed));
+                let proved = || all(&|i, j, d| kernel::relation(block, &placed, i, j, d).relation);
+                let plain = || all(&|i, j, d| relation(block, &placed, i, j, d).1);
+                let calls = rows * rows * dims;
+                let times = nanoseconds(20_000 / calls + 1, calls, &[&checks, &proved, &plain]);
                 ratios.push(times[1] / times[2]);
                 let [a, b, c] = [times[0], times[1], times[2]];
                 println!("{rows:>4} {dims:>4} {boxes:>5} {a:8.0} {b:8.0} {c:8.0} {:13.2}", b / c);
             }
         }
     }
-    let worst = ratios.iter().copied().fold(0.0, f64::max);
-    println!("\nkernel/plain: geometric mean {:.2}, worst line {worst:.2}", crate::geometric_mean(ratios.into_iter()));
+    print_ratios(&ratios);
     std::process::ExitCode::SUCCESS
 }
 
@@ -92,26 +99,14 @@ fn first_placement(table: &[i64], dims: usize) -> Vec<i64> {
     placed
 }
 
-/// The least of 40 batches for each subject in turn, a batch being every pair of rows and every dimension some times.
-fn nanoseconds(rows: i64, dims: i64, subjects: &[&dyn Fn(i64, i64, i64) -> i64]) -> Vec<f64> {
+/// A call for every pair of rows and every dimension.
+fn for_all(rows: i64, dims: i64, call: &dyn Fn(i64, i64, i64) -> i64) {
     use std::hint::black_box;
-    let calls = rows * rows * dims;
-    let times = 20_000 / calls + 1;
-    let mut least = vec![f64::MAX; subjects.len()];
-    for _ in 0..40 {
-        for (subject, least) in subjects.iter().zip(&mut least) {
-            let begin = std::time::Instant::now();
-            for _ in 0..times {
-                for i in 1..=rows {
-                    for j in 1..=rows {
-                        for d in 0..dims {
-                            black_box(subject(black_box(i), black_box(j), black_box(d)));
-                        }
-                    }
-                }
+    for i in 1..=rows {
+        for j in 1..=rows {
+            for d in 0..dims {
+                black_box(call(black_box(i), black_box(j), black_box(d)));
             }
-            *least = least.min(begin.elapsed().as_secs_f64() * 1e9 / (times * calls) as f64);
         }
     }
-    least
 }

@@ -2,6 +2,8 @@
 //! on damaged ones; and all of them against each other on sheets of the benchmark's kind.
 
 use crate::brute::{self, Brute};
+#[cfg(kernel)]
+use crate::fill::{fill, kernel_fill, placement};
 use crate::generate::{line_sheet, small_sheet, Line, Random, STYLES};
 #[cfg(kernel)]
 use crate::relation::relation;
@@ -19,6 +21,8 @@ struct Counts {
     kind: usize,
     #[cfg(kernel)]
     calls: usize,
+    #[cfg(kernel)]
+    fills: usize,
     differences: usize,
 }
 
@@ -43,7 +47,10 @@ pub fn run(count: u64) -> ExitCode {
         let random = &mut Random::new(!seed);
         against_brute_force(&sheet, random, counts);
         #[cfg(kernel)]
-        kernel_calls(&sheet, random, counts);
+        {
+            kernel_calls(&sheet, random, counts);
+            fills(&sheet, random, counts);
+        }
         damaged(&sheet, random, counts);
     }
     eprintln!("\rsheets of the benchmark's kind ");
@@ -69,7 +76,7 @@ pub fn run(count: u64) -> ExitCode {
     println!("damaged sheets: {}, by the refusal found (0 to 8): {:?}", counts.damaged, counts.refused);
     println!("sheets of the benchmark's kind, against each other: {}", counts.kind);
     #[cfg(kernel)]
-    println!("other calls of the kernel: {}", counts.calls);
+    println!("other calls of the kernel: {}, fills found among them: {}", counts.calls, counts.fills);
     println!("{} differences", counts.differences);
     ExitCode::from((counts.differences > 0) as u8)
 }
@@ -132,7 +139,10 @@ fn damaged(sheet: &Sheet, random: &mut Random, counts: &mut Counts) {
     counts.refused[expected as usize] += 1;
     counts.compare("refusal", &bad, refusal(&bad.block, &bad.table), expected);
     #[cfg(kernel)]
-    counts.compare("zk_refusal", &bad, crate::kernel::refusal(&bad.block, &bad.table), expected);
+    {
+        counts.compare("zk_refusal", &bad, crate::kernel::refusal(&bad.block, &bad.table), expected);
+        counts.compare("zk_fill", &bad, kernel_fill(&bad.block, &bad.table, 1), fill(&bad.block, &bad.table, 1));
+    }
     if expected != 0 {
         for (name, settle) in SUBJECTS {
             let mut table = bad.table.clone();
@@ -225,4 +235,21 @@ fn kernel_calls(sheet: &Sheet, random: &mut Random, counts: &mut Counts) {
     let expected = relation(block, &placed, row, other, dimension);
     counts.compare("zk_relation", sheet, (standing.finding, standing.relation), expected);
     counts.calls += 8;
+}
+
+/// The fill of every rule, and of numbers that are none, against plain Rust: of a placement in the sheet and of a good one.
+#[cfg(kernel)]
+fn fills(sheet: &Sheet, random: &mut Random, counts: &mut Counts) {
+    let table = Brute::new(&sheet.block).placed(&sheet.table, || random.next());
+    let rows = random.range(1, 8) as usize;
+    let cells = 1 << random.range(4, 12);
+    let good = placement(cells, random.range(1, 4) as usize, rows, random.range(1, 4) as usize, random.next());
+    for Sheet { block, table } in [&Sheet { block: sheet.block.clone(), table }, &good] {
+        for rule in -1..=block[2] + 1 {
+            let expected = fill(block, table, rule);
+            counts.compare("zk_fill", sheet, kernel_fill(block, table, rule), expected);
+            counts.calls += 1;
+            counts.fills += (expected.0 == 0) as usize;
+        }
+    }
 }

@@ -40,6 +40,13 @@ static void same_standing(const char *what, int64_t finding, int64_t relation, s
     same(what, relation, got.relation);
 }
 
+static void same_share(const char *what, int64_t finding, int64_t cells, int64_t permille, struct zk_share got)
+{
+    same(what, finding, got.finding);
+    same(what, cells, got.cells);
+    same(what, permille, got.permille);
+}
+
 /* k = 1: A is shape 1 of size 3, B is shape 2 of size 2; rows 1 and 2 do not overlap. No block below has more
    than MOST words. */
 enum { BLOCK = 14, TABLE = 6, MOST = 17 };
@@ -70,6 +77,7 @@ static void refused(const char *what, int64_t number, const int64_t *block, size
     same(what, number, zk_settle(b, block_len, t, table_len));
     same_span(what, 0, 0, zk_row_span(b, block_len, t, table_len, 1));
     same_standing(what, number, 0, zk_relation(b, block_len, t, table_len, 1, 2, 0));
+    same_share(what, number, 0, 0, zk_fill(b, block_len, t, table_len, 1));
     same_words(what, block, b, block_len);
     same_words(what, table, t, table_len);
 }
@@ -256,6 +264,101 @@ static void relations(void)
     same_standing("dimensions before that", 11, 0, zk_relation(square, 8, three, 15, 1, 2, 5));
 }
 
+/* k = 2: shape 1 is a unit, shape 2 two squares of side 2 that share a cell, shape 3 a bar 3 long. */
+enum { HEAD = 23, RULE = 7, ROW = 5, MOST_RULES = 2 };
+
+static struct zk_share filled(int64_t rules, const int64_t *rule_words, size_t rows, const int64_t *table, int64_t rule)
+{
+    static const int64_t boxes[] = {1, 0, 0, 1, 1,  2, 0, 0, 2, 2,  2, 1, 1, 2, 2,  3, 0, 0, 3, 1};
+    int64_t block[HEAD + MOST_RULES * RULE] = {2, 4, rules};
+    memcpy(block + 3, boxes, sizeof boxes);
+    memcpy(block + HEAD, rule_words, (size_t)rules * RULE * sizeof *block);
+    return zk_fill(block, HEAD + (size_t)rules * RULE, table, rows * ROW, rule);
+}
+
+/* One row in a room from (0, 0) to (width, depth), which is the first rule. */
+static struct zk_share filled_room(int64_t width, int64_t depth, int64_t shape_set, int64_t x, int64_t y)
+{
+    const int64_t room[RULE] = {2, 3, 1, 0, width, 0, depth};
+    const int64_t row[ROW] = {shape_set, x, x, y, y};
+    return filled(1, room, 1, row, 1);
+}
+
+/* One row in a room of n cells in a line; it covers c of them. */
+static struct zk_share filled_line(int64_t n, int64_t c)
+{
+    const int64_t block[] = {1, 1, 1,  1, 0, c,  2, 1, 1, 0, n};
+    static const int64_t row[] = {1, 0, 0};
+    return zk_fill(block, 11, row, 3, 1);
+}
+
+static void fills(void)
+{
+    same_share("a unit", 0, 1, 63, filled_room(4, 4, 1, 0, 0));
+    same_share("a bar", 0, 3, 188, filled_room(4, 4, 4, 1, 3));
+    same_share("boxes of a shape that share a cell", 0, 7, 438, filled_room(4, 4, 2, 1, 1));
+    same_share("64 by 64", 0, 1, 0, filled_room(64, 64, 1, 63, 63));
+    same_share("no cell", 14, 0, 0, filled_room(0, 4, 1, 0, 0));
+    same_share("4,097 cells", 14, 0, 0, filled_room(17, 241, 1, 0, 0));
+    same_share("a million by a million", 14, 0, 0, filled_room(1000000, 1000000, 1, 0, 0));
+    same_share("outside the room", 15, 0, 0, filled_room(4, 4, 1, 4, 0));
+    same_share("partly outside", 15, 0, 0, filled_room(4, 4, 4, 2, 0));
+    same_share("1 of 80", 0, 1, 13, filled_line(80, 1));
+    same_share("1 of 2,000", 0, 1, 1, filled_line(2000, 1));
+    same_share("3 of 2,000", 0, 3, 2, filled_line(2000, 3));
+    same_share("1 of 3", 0, 1, 333, filled_line(3, 1));
+    same_share("2 of 3", 0, 2, 667, filled_line(3, 2));
+    same_share("4,095 of 4,096", 0, 4095, 1000, filled_line(4096, 4095));
+    same_share("all of 4,096", 0, 4096, 1000, filled_line(4096, 4096));
+}
+
+/* Two rows; which of them count, and which rules do. */
+static void fills_of_two(void)
+{
+    static const int64_t both[RULE] = {2, 3, 3, 0, 4, 0, 4};
+    static const int64_t first[RULE] = {2, 3, 1, 0, 4, 0, 4};
+    static const int64_t apart_then_both[] = {1, 3, 3, 0, 0, 0, 0,  2, 3, 3, 0, 4, 0, 4};
+    static const int64_t one_dimension[RULE] = {2, 1, 3, 0, 4, 0, 0};
+    static const int64_t empty_room[RULE] = {2, 3, 3, 0, 0, 0, 4};
+    static const int64_t units[] = {1, 0, 0, 0, 0,  1, 0, 0, 0, 0};
+    static const int64_t bars[] = {4, 0, 0, 0, 0,  4, 1, 1, 0, 0};
+    static const int64_t beside[] = {1, 0, 0, 0, 0,  4, 0, 0, 1, 1};
+    static const int64_t second_open[] = {1, 0, 0, 0, 0,  1, 0, 1, 0, 0};
+    static const int64_t no_rules[5] = {0, -1, 2, INT64_MIN, INT64_MAX};
+    same_share("two units on one cell", 0, 1, 63, filled(1, both, 2, units, 1));
+    same_share("two bars that share two cells", 0, 4, 250, filled(1, both, 2, bars, 1));
+    same_share("the second row is not named", 0, 1, 63, filled(1, first, 2, beside, 1));
+    same_share("rules of both kinds are counted", 0, 4, 250, filled(2, apart_then_both, 2, beside, 2));
+    same_share("the other rule is broken", 15, 0, 0, filled(2, apart_then_both, 2, bars, 2));
+    for (int m = 0; m < 5; m++)
+        same_share("no such rule", 13, 0, 0, filled(1, both, 2, units, no_rules[m]));
+    same_share("a rule of kind 1", 13, 0, 0, filled(2, apart_then_both, 2, beside, 1));
+    same_share("one dimension named", 13, 0, 0, filled(1, one_dimension, 2, units, 1));
+    same_share("13 before 15", 13, 0, 0, filled(2, apart_then_both, 2, bars, 1));
+    same_share("14 before 15", 14, 0, 0, filled(1, empty_room, 2, units, 1));
+    same_share("12 before 13", 12, 0, 0, filled(1, both, 2, second_open, 9));
+    same_share("12 before 14", 12, 0, 0, filled(1, empty_room, 2, second_open, 1));
+}
+
+/* k = 4: a cube of side 2 in a room of side 8, which has 4,096 cells, in one that is 9 wide in the last
+   dimension, in the widest, and in one without cells. */
+static void fills_in_four(void)
+{
+    int64_t block[] = {4, 1, 1,  1, 0, 0, 0, 0, 2, 2, 2, 2,  2, 15, 1, 0, 8, 0, 8, 0, 8, 0, 8};
+    static const int64_t row[] = {1, 6, 6, 0, 0, 3, 3, 5, 5};
+    enum { WORDS = sizeof block / sizeof *block, LAST_HIGH = WORDS - 1 };
+    same_share("8 by 8 by 8 by 8", 0, 16, 4, zk_fill(block, WORDS, row, 9, 1));
+    block[LAST_HIGH] = 9;
+    same_share("8 by 8 by 8 by 9", 14, 0, 0, zk_fill(block, WORDS, row, 9, 1));
+    for (int at = LAST_HIGH - 7; at < LAST_HIGH; at += 2) {
+        block[at] = -1000000;
+        block[at + 1] = 1000000;
+    }
+    same_share("two million in each of four", 14, 0, 0, zk_fill(block, WORDS, row, 9, 1));
+    block[LAST_HIGH] = -1000000;
+    same_share("and none in the last", 14, 0, 0, zk_fill(block, WORDS, row, 9, 1));
+}
+
 int main(void)
 {
     refusals();
@@ -264,6 +367,9 @@ int main(void)
     changes();
     clearances();
     relations();
+    fills();
+    fills_of_two();
+    fills_in_four();
     printf("%d comparisons, %d differ\n", compared, differ);
     return differ ? 1 : 0;
 }

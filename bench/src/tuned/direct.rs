@@ -34,7 +34,7 @@ impl Form for Direct {
                 if !row.has_one_shape() {
                     continue;
                 }
-                let t = row.set.trailing_zeros() as usize;
+                let t = row.shape();
                 if !own_hull.hits(p, &sheet.hulls[t].core(row, rule)) {
                     continue;
                 }

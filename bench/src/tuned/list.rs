@@ -51,7 +51,7 @@ impl Form for List {
                 if !rows[j].has_one_shape() {
                     continue;
                 }
-                let t = rows[j].set.trailing_zeros() as usize;
+                let t = rows[j].shape();
                 let core = sheet.hulls[t].core(&rows[j], rule);
                 if !own_hull.hits_in(cut, &core) {
                     continue;

@@ -14,9 +14,12 @@ use Rattle.sheet.specs.declared.Settling.{Settling}
 use Rattle.sheet.specs.declared.Settling.the-variants as S
 use Rattle.sheet.specs.declared.Standing.{Standing}
 use Rattle.sheet.specs.declared.Standing.the-variants as R
+use Rattle.sheet.specs.declared.Share.{Share}
+use Rattle.sheet.specs.declared.Share.the-variants as F
 use Rattle.sheet.specs.Relation.{relationNumber}
 use Rattle.capi.specs.declared.BoundFinding.{BoundFinding}
 use Rattle.capi.specs.declared.StandingFinding.{StandingFinding}
+use Rattle.capi.specs.declared.ShareFinding.{ShareFinding}
 
 unfoldable pub pointFinding : PointTest → ℤ
 pointFinding P.Allowed = pos 0
@@ -51,3 +54,8 @@ settleFinding (S.Refused g) = g
 unfoldable pub standingFinding : Standing → StandingFinding
 standingFinding (R.Bears x) = record { finding = pos 0; relation = pos (relationNumber x) }
 standingFinding (R.Refused g) = record { finding = g; relation = pos 0 }
+
+-- the cells and their thousandths are 0 when refused
+unfoldable pub shareFinding : Share → ShareFinding
+shareFinding (F.Of c p) = record { finding = pos 0; cells = c; permille = p }
+shareFinding (F.Refused g) = record { finding = g; cells = pos 0; permille = pos 0 }

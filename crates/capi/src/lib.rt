@@ -11,15 +11,19 @@ ghost use Rattle.sheet.specs.Bounds.{leastOf, greatestOf};
 ghost use Rattle.sheet.specs.Narrow.{narrowOf};
 ghost use Rattle.sheet.specs.Settle.{settleOf};
 ghost use Rattle.sheet.specs.Relation.{relationNumber, relationOf};
-ghost use Rattle.sheet.specs.Refusal.{refusal, refusalRow, refusalShape, refusalDim, refusalPlacement, refusalRelation, rowSlice, rowStart};
-ghost use Rattle.sheet.specs.Answer.{pointAnswer, verdictAnswer, boundAnswer, narrowAnswer, settleAnswer, standingAnswer, tableAfter};
+ghost use Rattle.sheet.specs.Fill.{ruleAsked, roomCells, coveredCells, permille};
+ghost use Rattle.sheet.specs.Refusal.{refusal, refusalRow, refusalShape, refusalDim, refusalPlacement, refusalRelation, refusalFill};
+ghost use Rattle.sheet.specs.Refusal.{rowSlice, rowStart};
+ghost use Rattle.sheet.specs.Answer.{pointAnswer, verdictAnswer, boundAnswer, narrowAnswer, settleAnswer, standingAnswer, fillAnswer};
+ghost use Rattle.sheet.specs.Answer.{tableAfter};
 ghost use Rattle.capi.specs.Findings.{pointFinding, verdictFinding, noBound, boundFinding, narrowFinding, settleFinding};
-ghost use Rattle.capi.specs.Findings.{standingFinding};
+ghost use Rattle.capi.specs.Findings.{standingFinding, shareFinding};
 use sheet::Allen;
 use sheet::Bound;
 use sheet::Narrowing;
 use sheet::PointTest;
 use sheet::Settling;
+use sheet::Share;
 use sheet::Standing;
 use sheet::Verdict;
 
@@ -44,6 +48,14 @@ pub struct RowSpan {
 pub struct StandingFinding {
     pub finding: i64,
     pub relation: i64,
+}
+
+// struct zk_share: the cells covered, and how many thousandths of the room they are; 0 and 0 when refused.
+#[repr(C)]
+pub struct ShareFinding {
+    pub finding: i64,
+    pub cells: i64,
+    pub permille: i64,
 }
 
 // ---- findings as words
@@ -127,6 +139,23 @@ fn standing_finding(x: Standing) -> StandingFinding
         Standing::Refused(g) => StandingFinding {
             finding: g,
             relation: 0,
+        },
+    }
+}
+
+fn share_finding(x: Share) -> ShareFinding
+    ensures { λ r. ⌜ r ≡ shareFinding x ⌝ }
+{
+    match x {
+        Share::Of(c, p) => ShareFinding {
+            finding: 0,
+            cells: c,
+            permille: p,
+        },
+        Share::Refused(g) => ShareFinding {
+            finding: g,
+            cells: 0,
+            permille: 0,
         },
     }
 }
@@ -244,4 +273,13 @@ pub extern "C" fn zk_relation(
         (relationOf (now (block .entry)) (now (table .entry)) (nat row) (nat other) (nat dimension))) ⌝ }
 {
     standing_finding(relate::relation(block, table, row, other, dimension))
+}
+
+#[no_mangle]
+pub extern "C" fn zk_fill(block: &[i64], table: &[i64], rule: i64) -> ShareFinding
+    ensures { λ r. ⌜ r ≡ shareFinding (fillAnswer (refusalFill (now (block .entry)) (now (table .entry)) rule)
+        (coveredCells (now (block .entry)) (now (table .entry)) (ruleAsked rule))
+        (permille (coveredCells (now (block .entry)) (now (table .entry)) (ruleAsked rule)) (roomCells (now (block .entry)) (ruleAsked rule)))) ⌝ }
+{
+    share_finding(fill::fill(block, table, rule))
 }

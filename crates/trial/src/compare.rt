@@ -2,6 +2,7 @@
 use super::brute;
 use super::brute::NONE;
 use super::brute::NOWHERE;
+use super::fills;
 use super::findings;
 use super::findings::found;
 use super::generate;
@@ -258,7 +259,7 @@ fn requested_ends(t: Tally, block: &[i64], table: &[i64], row: i64, shape: i64, 
     ends(t, block, table, row, shape, dim, found(word(r, 0) != 0), r)
 }
 
-// One of each kind of request. The number that was drawn for the shape is also that of the other row.
+// One of each kind of request. The number that was drawn for the shape is also that of the other row, and that for the dimension of the rule.
 fn request(t: Tally, seed: &mut usize, block: &[i64], table: &[i64]) -> Tally {
     let n = numbers::plus(layout::rows(block, table), 4);
     let row = some_number(seed, &ODD_ROWS, 12, n);
@@ -270,7 +271,8 @@ fn request(t: Tally, seed: &mut usize, block: &[i64], table: &[i64]) -> Tally {
     let v = u.compared(point_is(answer, findings::point(block, table, row, shape, p)));
     let w = change(v, block, table, false, row, false);
     let x = relations::pair(w, block, table, row, shape, dim);
-    handing(x, block, table, row)
+    let y = fills::rule(x, block, table, dim);
+    handing(y, block, table, row)
 }
 
 fn requests(t: Tally, seed: &mut usize, block: &[i64], table: &[i64]) -> Tally {
@@ -288,7 +290,8 @@ fn placed(t: Tally, seed: &mut usize, block: &[i64], table: &[i64]) -> Tally {
     let fixed = numbers::copied(&mut room, table);
     generate::fix(seed, fixed, layout::row_len(layout::dims(block)));
     let u = relations::pairs(judging(t, block, fixed), block, fixed);
-    change(u, block, fixed, true, 0, false)
+    let v = fills::rules(u, block, fixed);
+    change(v, block, fixed, true, 0, false)
 }
 
 fn placements(t: Tally, seed: &mut usize, block: &[i64], table: &[i64]) -> Tally {
@@ -297,6 +300,15 @@ fn placements(t: Tally, seed: &mut usize, block: &[i64], table: &[i64]) -> Tally
         u = placed(u, seed, block, table);
     }
     u
+}
+
+// A room's sheet: whether a placement is good, and what its rules' fills are.
+pub(crate) fn room(t: Tally, seed: &mut usize, block: &[i64], table: &[i64]) -> Tally {
+    let mut words = [0i64; TABLE];
+    let fixed = numbers::copied(&mut words, table);
+    generate::fix(seed, fixed, layout::row_len(layout::dims(block)));
+    let u = t.with_sheet(false, false);
+    fills::rules(judging(u, block, fixed), block, fixed)
 }
 
 // ---- a sheet

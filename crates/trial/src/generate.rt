@@ -135,10 +135,21 @@ fn rule_without(seed: &mut usize, p: Plan, r: usize) -> [i64; RECORD] {
     with_pairs(seed, record(1, dims, rows), s, p.k, dims)
 }
 
-// Rule r of a plan. A position's rules have a room and name dimension 0 and row 1.
+// A rule that can be filled, of some of the rows.
+fn fill_rule(seed: &mut usize, p: Plan) -> [i64; RECORD] {
+    let s = p.rooms;
+    let dims = numbers::word_of(all(p.k));
+    let rows = some_set(seed, p.rows);
+    with_pairs(seed, record(2, dims, rows), s, p.k, dims)
+}
+
+// Rule r of a plan. A position's rules have a room and name dimension 0 and row 1; the last rule of a room's sheet can be filled.
 fn rule_record(seed: &mut usize, p: Plan, r: usize) -> [i64; RECORD] {
     let s = p.rooms;
-    if p.kind == plan::SMALL {
+    if p.kind == plan::ROOM && plus(r, 1) == p.rules {
+        return fill_rule(seed, p);
+    }
+    if p.kind == plan::SMALL || p.kind == plan::ROOM {
         return some_rule(seed, p);
     }
     if p.kind == plan::POSITION {

@@ -1,9 +1,10 @@
-// Holds the kernel against brute force: document 01's positions that are not marked, then some thousands of small sheets by chance and
-// some dozens of larger ones. It prints how many were run, how many answers were compared, and how many differ.
+// Holds the kernel against brute force: document 01's positions that are not marked, then some thousands of small sheets by chance, some
+// dozens of larger ones and some thousands of rooms. It prints how many were run, how many answers were compared, and how many differ.
 mod brute; // brute.rt: what is allowed, by definition; every point tried
 mod catalogue; // catalogue.rt: good placements
 mod compare; // compare.rt: kernel and brute force
 mod edges; // edges.rt: the positions
+mod fills; // fills.rt: the fill of a room
 mod findings; // findings.rt: what brute force finds
 mod generate; // generate.rt: sheets by chance
 mod layout; // layout.rt: the words of a sheet
@@ -18,10 +19,12 @@ use generate::WORDS;
 use libc::STDOUT_FILENO;
 use tally::Tally;
 
-// How many small and how many larger sheets are tried.
+// How many small and how many larger sheets are tried, and how many rooms.
 const SHEETS: usize = 10000;
 
 const LARGER: usize = 300;
+
+const ROOMS: usize = 8000;
 
 // Sheet m of a kind.
 fn sheet(t: Tally, seed: &mut usize, kind: usize, m: usize) -> Tally {
@@ -31,6 +34,9 @@ fn sheet(t: Tally, seed: &mut usize, kind: usize, m: usize) -> Tally {
     let table = numbers::part(&words, BLOCK, z.table);
     if kind == plan::POSITION {
         return edges::position(t, block, table, m);
+    }
+    if kind == plan::ROOM {
+        return compare::room(t, seed, block, table);
     }
     compare::sheet(t, seed, block, table, kind)
 }
@@ -63,6 +69,16 @@ fn print_sheets(text: &[u8], t: Tally) {
     io::write_all(STDOUT_FILENO, b")\n");
 }
 
+fn print_placements(text: &[u8], t: Tally) {
+    print(text, t.good);
+    print(b", not good ", t.bad);
+}
+
+fn print_fills(t: Tally) {
+    print(b"\nfills: found ", t.filled);
+    print(b", with a cell in several boxes ", t.shared);
+}
+
 fn print_compared(text: &[u8], t: Tally) {
     print(text, t.compared);
     print(b", differences: ", t.differ);
@@ -75,12 +91,17 @@ fn main() {
     print(b" run, ", e.differ);
     let t = sheets(plan::SMALL, SHEETS, 88172645463325252);
     print_sheets(b" differ\nsheets: ", t);
-    print(b"placements: good ", t.good);
-    print(b", not good ", t.bad);
+    print_placements(b"placements: good ", t);
     print(b"\nrelations: found ", t.related);
     print(b", kinds ", tally::kinds_of(t));
+    print_fills(t);
     print_compared(b"\ncomparisons: ", t);
     let l = sheets(plan::LARGER, LARGER, 362436069362436069);
     print_sheets(b"larger sheets: ", l);
     print_compared(b"comparisons: ", l);
+    let r = sheets(plan::ROOM, ROOMS, 521288629521288629);
+    print(b"rooms: ", r.run);
+    print_placements(b", placements: good ", r);
+    print_fills(r);
+    print_compared(b"\ncomparisons: ", r);
 }

@@ -1,4 +1,4 @@
-// What the sheets are made of: small ones by chance, larger ones by chance, and the positions.
+// What the sheets are made of: small ones by chance, larger ones by chance, rooms to be filled, and the positions.
 use super::edges;
 use super::numbers;
 use super::numbers::below;
@@ -11,6 +11,8 @@ pub const SMALL: usize = 0;
 pub const LARGER: usize = 1;
 
 pub const POSITION: usize = 2;
+
+pub const ROOM: usize = 3;
 
 // How k pairs of words of a record are drawn. Pair d starts at word `at` + `step` * d, and its second word stands `gap` words after the
 // first. The first is one of `n` words from `first` on, the second one of `more` words from `then` on; of a range it is so much past the
@@ -149,6 +151,45 @@ fn larger(seed: &mut usize, m: usize) -> Plan {
     }
 }
 
+// ---- rooms
+
+// How wide rooms are: wide enough for most placements; every fourth time of about 4,096 cells, and every eighth time of few or none.
+fn some_room(seed: &mut usize, k: usize) -> Pairs {
+    match below(seed, 8) {
+        0 => ranges(3, -1, 2, 0, 3),
+        1 | 2 => ranges(3, -3, 3, widest(k), 3),
+        _ => ranges(3, -3, 3, 6, 3),
+    }
+}
+
+// One less than the side of a room of 4,096 cells.
+fn widest(k: usize) -> i64 {
+    match k {
+        1 => 4095,
+        2 => 63,
+        3 => 15,
+        _ => 7,
+    }
+}
+
+// A room with one to four rows in it, of one to three shapes that lie between -1 and 3, each at a point from 0 to 2 in every dimension.
+fn room(seed: &mut usize) -> Plan {
+    let k = plus(1, below(seed, 4));
+    let shapes = plus(1, below(seed, 3));
+    Plan {
+        kind: ROOM,
+        k,
+        boxes: plus(shapes, below(seed, 6)),
+        rules: plus(1, below(seed, 2)),
+        rows: plus(1, below(seed, 4)),
+        shapes,
+        extents: extents(k, -1, 3, 1, 2),
+        ranges: ranges(1, 0, 3, 0, 1),
+        rooms: some_room(seed, k),
+        clearances: clearances(2),
+    }
+}
+
 // ---- all
 
 // The plan of sheet m of a kind.
@@ -156,6 +197,7 @@ pub(crate) fn of(seed: &mut usize, kind: usize, m: usize) -> Plan {
     match kind {
         SMALL => small(seed),
         LARGER => larger(seed, m),
+        ROOM => room(seed),
         _ => edges::plan(m),
     }
 }

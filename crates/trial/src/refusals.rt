@@ -1,6 +1,7 @@
-// Document 01's grounds for turning a sheet away, 2 to 12, as the paper lists them, with document 02's limits of a clearance. It shares no
-// code with the kernel.
+// Document 01's grounds for turning a sheet away, 2 to 12, as the paper lists them, with document 02's limits of a clearance, and document
+// 02's grounds 13 to 15. It shares no code with the kernel.
 use super::brute;
+use super::catalogue;
 use super::layout;
 use super::numbers;
 
@@ -245,4 +246,53 @@ pub(crate) fn relation_refusal(
         return 11;
     }
     placement_refusal(block, table)
+}
+
+// ---- refusals 13 to 15
+
+// Whether a number is that of a rule of kind 2 that names every dimension.
+fn is_fill_rule(block: &[i64], rule: i64) -> bool {
+    let r = index(rule);
+    let every = numbers::difference(numbers::set_of(layout::dims(block)), 1);
+    numbers::is_within(rule, 1, numbers::word_of(layout::rules(block)))
+        && layout::kind(block, r) == 2
+        && layout::dim_set(block, r) == every
+}
+
+// A room may have this many cells; one that has more counts as one more.
+const MOST_CELLS: usize = 4096;
+
+pub(crate) fn room_cells(block: &[i64], r: usize) -> usize {
+    let k = layout::dims(block);
+    let most = numbers::plus(MOST_CELLS, 1);
+    let mut n = 1;
+    for d in 0..k {
+        let span = numbers::difference(
+            layout::room_high(block, r, d),
+            layout::room_low(block, r, d),
+        );
+        n = numbers::place(0, n, numbers::at_most(numbers::count_of(span), most));
+        n = numbers::at_most(n, most);
+    }
+    n
+}
+
+// Of a rule's fill.
+pub(crate) fn fill_refusal(block: &[i64], table: &[i64], rule: i64) -> i64 {
+    let g = placement_refusal(block, table);
+    if g > 0 {
+        return g;
+    }
+    if !is_fill_rule(block, rule) {
+        return 13;
+    }
+    let n = room_cells(block, index(rule));
+    if n == 0 || n > MOST_CELLS {
+        return 14;
+    }
+    if catalogue::is_good(block, table) {
+        0
+    } else {
+        15
+    }
 }

@@ -13,6 +13,8 @@ pub struct Tally {
     pub bad: u64, // placements
     pub related: u64, // pairs of rows of which a relation was found
     pub kinds: i64, // the relations that were found, as a set of their numbers
+    pub filled: u64, // rules of which a fill was found
+    pub shared: u64, // of these, in which two boxes share a cell
     pub compared: u64, // answers and tables
     pub differ: u64,
 }
@@ -34,6 +36,8 @@ impl Tally {
             bad: 0,
             related: 0,
             kinds: 0,
+            filled: 0,
+            shared: 0,
             compared: 0,
             differ: 0,
         }
@@ -78,6 +82,12 @@ impl Tally {
     pub(crate) fn with_relation(mut self, kind: i64) -> Self {
         self.related = and(self.related, true);
         self.kinds = self.kinds | kind;
+        self
+    }
+
+    pub(crate) fn with_fill(mut self, shared: bool) -> Self {
+        self.filled = and(self.filled, true);
+        self.shared = and(self.shared, shared);
         self
     }
 }

@@ -41,10 +41,11 @@ module _ (widths from size : List ℕ) (j : ℕ) where
   unfolding lineStart numberOf digit sumBelow productBelow lineSize
   upto-one = record { start-is = omega arith; step-is = omega arith; rest-is = omega arith }
 
-  pub upto-more : {d start step rest : ℕ} → 1 ≤ d → Upto widths from size j d start step rest
-      → Upto widths from size j (d + 1) (start + (at from d + rest % at size d) * step) (step * at widths d) (rest / at size d)
-  upto-more {d} l u = record {
-    start-is = rw (u .start-is, u .step-is, u .rest-is) (sym (start-more l));
+  -- e and q are the next digit and what is left, as the code holds them
+  pub upto-more : {d start step rest e q : ℕ} → 1 ≤ d → Upto widths from size j d start step rest → q ≡ rest / at size d → e ≡ rest % at size d
+      → Upto widths from size j (d + 1) (start + (at from d + e) * step) (step * at widths d) q
+  upto-more {d} l u quotient digit-is = record {
+    start-is = rw (digit-is, u .start-is, u .step-is, u .rest-is) (sym (start-more l));
     step-is = rw (u .step-is) (sym (product-more d (at widths)));
-    rest-is = rw (u .rest-is) (div-div-eq-div-mul j (lines d size) (at size d) ∙ ap (λ (n : ℕ). j / n) (sym (lines-more size l)));
+    rest-is = quotient ∙ rw (u .rest-is) (div-div-eq-div-mul j (lines d size) (at size d) ∙ ap (λ (n : ℕ). j / n) (sym (lines-more size l)));
   }

@@ -2,7 +2,7 @@
 // of its number, whose base is the grid's width there (crates/integers/specs/Digits). Of the sheet it has the number of dimensions alone.
 ghost use mathlib.Core.Path.{_≡_};
 ghost use mathlib.Core.Bool.{false, cond, _||_};
-ghost use Prim.Native.Nat.{ℕ, _+_, _<_, _≤_};
+ghost use Prim.Native.Nat.{ℕ, _+_, _/_, _%_, _<_, _≤_};
 ghost use lib.ListN.{getD, length};
 ghost use Rattle.integers.specs.Below.{sumBelow, productBelow};
 ghost use Rattle.grid.specs.Grid.{cellsMost, at, inLine, lines, lineStart, Lies, inBrick};
@@ -44,6 +44,29 @@ fn lines_of(k: usize, widths: [usize; DIMS], brick: Brick) -> usize
     n
 }
 
+// A quotient and the remainder.
+struct Division {
+    quotient: usize,
+    remainder: usize,
+}
+
+// A number below the base, as one is in a brick's last dimension, needs no division.
+fn divided(n: usize, base: usize) -> Division
+    requires { ⌜ 1 ≤ base ⌝ }
+    ensures { λ r. ⌜ (r .quotient ≡ n / base) × (r .remainder ≡ n % base) ⌝ }
+{
+    if n < base {
+        return Division {
+            quotient: 0,
+            remainder: n,
+        };
+    }
+    Division {
+        quotient: n / base,
+        remainder: n % base,
+    }
+}
+
 // The first cell of a brick's line j.
 fn line_start(k: usize, widths: [usize; DIMS], brick: Brick, j: usize) -> usize
     requires { ⌜ Lies k widths brick ⌝ }
@@ -56,8 +79,9 @@ fn line_start(k: usize, widths: [usize; DIMS], brick: Brick, j: usize) -> usize
     let mut rest = j;
     let mut d = 1;
     while d < k {
-        start += (from[d] + rest % size[d]) * step;
-        rest /= size[d];
+        let x = divided(rest, size[d]);
+        start += (from[d] + x.remainder) * step;
+        rest = x.quotient;
         step *= widths[d];
         d += 1;
     }

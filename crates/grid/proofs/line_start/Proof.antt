@@ -1,7 +1,7 @@
 -- `grid::line_start` meets its contract: start is the line's first cell in the dimensions before d. Assumes nothing.
 use mathlib.Core.Path.{_≡_, ap, _∙_}
 use mathlib.Core.List.{List}
-use Prim.Native.Nat.{ℕ, _+_, _-_, _*_, _/_, _%_, _≤_, _<_}
+use Prim.Native.Nat.{ℕ, _+_, _-_, _*_, _≤_, _<_}
 use native.Mathlib.Nat.{mod-lt}
 use native.Mathlib.Omega.{arith}
 use Rattle.integers.specs.Below.{productBelow}
@@ -37,20 +37,33 @@ module _ (c : tie.In-loop Inv-loop μ-loop) where
   inside : d < s .args .k
   inside = omega arith
 
-  next : Upto widths from size (s .args .j) (d + 1)
-      (c .before .loop .start + (at from d + c .before .loop .rest % at size d) * c .before .loop .step)
-      (c .before .loop .step * at widths d) (c .before .loop .rest / at size d)
-  next = upto-more widths from size (s .args .j) (c .before .loop .inv .0) (c .before .loop .inv .2)
-
-  place-few : at from d + c .before .loop .rest % at size d ≤ cellsMost
-  place-few =
-      omega (arith, mod-lt (c .before .loop .rest) (s .pre .sizes d inside), s .pre .inside d inside, width-few (s .pre) inside)
-
   step-few : productBelow (d + 1) (at widths) ≤ cellsMost
   step-few = steps-few (s .pre) (omega (arith, inside))
 
   start-few : lineStart (d + 1) widths from size (s .args .j) < cellsMost
   start-few = omega (arith, step-few, start-below (s .pre) (s .args .j) {d = d + 1} (omega (arith, inside)))
+
+-- with the digit
+module _ (c : tie.After-divided Inv-loop μ-loop) where
+  abbrev l : tie.In-loop Inv-loop μ-loop
+  l = c .before
+
+  next : Upto (widths l) (from l) (size l) (s l .args .j) (d l + 1)
+      (l .before .loop .start + (at (from l) (d l) + c .divided .result .remainder) * l .before .loop .step)
+      (l .before .loop .step * at (widths l) (d l)) (c .divided .result .quotient)
+  next =
+      upto-more (widths l) (from l) (size l) (s l .args .j) (l .before .loop .inv .0) (l .before .loop .inv .2) (c .divided .ensures .0)
+      (c .divided .ensures .1)
+
+  place-few : at (from l) (d l) + c .divided .result .remainder ≤ cellsMost
+  place-few =
+      omega (
+        arith,
+        c .divided .ensures .1,
+        mod-lt (l .before .loop .rest) (s l .pre .sizes (d l) (inside l)),
+        s l .pre .inside (d l) (inside l),
+        width-few (s l .pre) (inside l),
+      )
 
 array-read-start : tie.Need-array-read-start Inv-loop μ-loop
 array-read-start c = omega arith
@@ -62,47 +75,38 @@ loop-holds : tie.Need-loop-holds Inv-loop μ-loop
 loop-holds c =
     let s = c .before .before .args in (omega arith, c .before .before .pre .some-dims, upto-one (s .t2) (s .brick .from) (s .brick .size) (s .j))
 
+mul-divided : tie.Need-mul-divided Inv-loop μ-loop
+mul-divided c = omega arith
+
+array-read-divided : tie.Need-array-read-divided Inv-loop μ-loop
+array-read-divided c = omega (arith, s c .pre .few-dims)
+
+divided-requires : tie.Need-divided-requires Inv-loop μ-loop
+divided-requires c κs = s c .pre .sizes (d c) (inside c)
+
 mul-start : tie.Need-mul-start Inv-loop μ-loop
 mul-start c = omega arith
 
 array-read-start-2 : tie.Need-array-read-start-2 Inv-loop μ-loop
-array-read-start-2 c = omega (arith, s c .pre .few-dims)
-
-mul-start-2 : tie.Need-mul-start-2 Inv-loop μ-loop
-mul-start-2 c = omega arith
-
-array-read-start-3 : tie.Need-array-read-start-3 Inv-loop μ-loop
-array-read-start-3 c = omega (arith, s c .pre .few-dims)
-
-rem-start : tie.Need-rem-start Inv-loop μ-loop
-rem-start c = s c .pre .sizes (d c) (inside c)
+array-read-start-2 c = omega (arith, s (l c) .pre .few-dims)
 
 add-start : tie.Need-add-start Inv-loop μ-loop
-add-start c = omega (arith, place-few c)
+add-start c = omega (arith, place-few (c .before))
 
-mul-start-3 : tie.Need-mul-start-3 Inv-loop μ-loop
-mul-start-3 c = omega (arith, next c .start-is, start-few c)
+mul-start-2 : tie.Need-mul-start-2 Inv-loop μ-loop
+mul-start-2 c = omega (arith, next (c .before) .start-is, start-few (l (c .before)))
 
 add-start-2 : tie.Need-add-start-2 Inv-loop μ-loop
-add-start-2 c = omega (arith, next c .start-is, start-few c)
-
-mul-rest : tie.Need-mul-rest Inv-loop μ-loop
-mul-rest c = omega arith
-
-array-read-rest : tie.Need-array-read-rest Inv-loop μ-loop
-array-read-rest c = omega (arith, s c .pre .few-dims)
-
-div-rest : tie.Need-div-rest Inv-loop μ-loop
-div-rest c = s c .pre .sizes (d c) (inside c)
+add-start-2 c = omega (arith, next (c .before) .start-is, start-few (l (c .before)))
 
 mul-step : tie.Need-mul-step Inv-loop μ-loop
 mul-step c = omega arith
 
 array-read-step-2 : tie.Need-array-read-step-2 Inv-loop μ-loop
-array-read-step-2 c = omega (arith, s c .pre .few-dims)
+array-read-step-2 c = omega (arith, s (l (c .before)) .pre .few-dims)
 
 mul-step-2 : tie.Need-mul-step-2 Inv-loop μ-loop
-mul-step-2 c = omega (arith, next c .step-is, step-few c)
+mul-step-2 c = omega (arith, next (c .before) .step-is, step-few (l (c .before)))
 
 add-d : tie.Need-add-d Inv-loop μ-loop
 add-d c = omega arith
@@ -111,7 +115,7 @@ loop-less : tie.Need-loop-less Inv-loop μ-loop
 loop-less c = omega arith
 
 loop-again : tie.Need-loop-again Inv-loop μ-loop
-loop-again c = (omega arith, omega arith, next c)
+loop-again c = (omega arith, omega arith, next (c .before))
 
 returns : tie.Need-returns Inv-loop μ-loop
 returns c =
@@ -128,17 +132,14 @@ line-start-spec =
     array-read-start
     array-read-step
     loop-holds
+    mul-divided
+    array-read-divided
+    divided-requires
     mul-start
     array-read-start-2
-    mul-start-2
-    array-read-start-3
-    rem-start
     add-start
-    mul-start-3
+    mul-start-2
     add-start-2
-    mul-rest
-    array-read-rest
-    div-rest
     mul-step
     array-read-step-2
     mul-step-2

@@ -12,7 +12,7 @@ use Rattle.sheet.specs.Answer.{fillAnswer}
 use Rattle.sheet.specs.declared.Share.{Share}
 use Rattle.sheet.specs.declared.Share.the-variants as F
 
-answer-refused : {g : ℕ} (c p : ℕ) → 0 < g → fillAnswer g c p ≡ F.Refused (pos g)
+pub answer-refused : {g : ℕ} (c p : ℕ) → 0 < g → fillAnswer g c p ≡ F.Refused (pos g)
 unfolding fillAnswer
 answer-refused {g = zero} c p h = absurd (not-suc-le-zero h)
 answer-refused {g = suc n} c p h = refl

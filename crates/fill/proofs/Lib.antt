@@ -4,3 +4,4 @@ pub mod Rooms
 pub mod Bricks
 pub mod Covers
 pub mod Answers
+pub mod Promise

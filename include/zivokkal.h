@@ -70,8 +70,7 @@
    may run in different threads at once, also over one block. No function recurses. Nothing is proved
    about the stack: where it was measured zk_settle, zk_narrow, zk_least and zk_greatest used 62 to 66 KB
    of it (most of it a list of what can forbid a row, and an outline of the block), zk_check_placement and
-   zk_point_allowed 13 KB, zk_fill as much and 4 KB for its marks, the others less than 1 KB; 128 KB leave
-   room for changes.
+   zk_point_allowed 13 KB, zk_fill 17 KB, the others less than 1 KB; 128 KB leave room for changes.
 
    Time: every call ends, but there is no limit to it that helps in practice, and a call cannot be
    interrupted. Ordinary sheets settle in microseconds to milliseconds. Beside document 000's filtering in

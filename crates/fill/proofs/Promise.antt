@@ -11,7 +11,7 @@ use lib.IntN.{ℤ, pos}
 use Rattle.integers.specs.Integer.{nat}
 use Rattle.integers.proofs.Booleans.{clash}
 use Rattle.sheet.specs.Layout.{dims}
-use Rattle.sheet.specs.Fill.{ruleAsked, roomCells, coversCell, coveredCells, permille, Counts, Nearest}
+use Rattle.sheet.specs.Fill.{ruleAsked, roomCells, coversCell, coveredCells, permille, CountsCells, Nearest}
 use Rattle.sheet.specs.Refusal.{refusalFill}
 use Rattle.sheet.specs.Answer.{fillAnswer}
 use Rattle.sheet.specs.declared.Share.{Share}
@@ -43,7 +43,7 @@ module _ (block t : List ℤ) (rule : ℤ) (finding : Share) (promised : finding
 
   -- c is the number of the covered cells, and p the nearest figure
   abbrev pub Found : (c p : ℕ) → Type 0
-  Found c p = (refusalFill block t rule ≡ 0) × Counts (dims block) (coversCell block t (ruleAsked rule)) c × Nearest (1000 * c) n p
+  Found c p = (refusalFill block t rule ≡ 0) × CountsCells (dims block) (coversCell block t (ruleAsked rule)) c × Nearest (1000 * c) n p
 
   module _ (none : refusalFill block t rule ≡ 0) where
     found : finding ≡ F.Of (pos covered) (pos (permille covered n))
@@ -58,7 +58,7 @@ module _ (block t : List ℤ) (rule : ℤ) (finding : Share) (promised : finding
         let e = ap cells-of (sym found ∙ q) in
         let f = ap figure-of (sym found ∙ q) in (
           none,
-          subst (Counts (dims block) (coversCell block t (ruleAsked rule))) e (covered-counts block t rule none),
+          subst (CountsCells (dims block) (coversCell block t (ruleAsked rule))) e (covered-counts block t rule none),
           subst (Nearest (1000 * c) n) f (subst (λ (m : ℕ). Nearest (1000 * m) n (permille covered n)) e nearest),
         )
 

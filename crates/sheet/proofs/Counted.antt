@@ -23,7 +23,7 @@ use Rattle.integers.proofs.Ranges.{count, nat-diff}
 use Rattle.integers.proofs.Lists.{length-listBelow, words-ext}
 use Rattle.integers.proofs.Digits.{sum-same, digits-number, number-below, number-digits}
 use Rattle.sheet.specs.Layout.{dims, roomLow, roomHigh}
-use Rattle.sheet.specs.Fill.{ruleAsked, roomWidth, roomCells, cellsFrom, coversCell, coveredCells, Counts}
+use Rattle.sheet.specs.Fill.{ruleAsked, roomWidth, roomCells, cellsFrom, coversCell, coveredCells, CountsCells}
 use Rattle.sheet.specs.Refusal.{refusalFill}
 use Rattle.sheet.specs.Cells.{cellAt}
 use Rattle.sheet.proofs.Fill.{fill-asked, covered-in-room}
@@ -148,7 +148,7 @@ module _ (block : List ℤ) (r : ℕ) (some : 1 ≤ roomCells block r) where
     at : {j : ℕ} → j < n → Picked g (roomCells block r) j (pick g (roomCells block r) j)
     at {j} h = picked g (roomCells block r) (subst (λ (m : ℕ). j < m) all-passed h)
 
-    room-counts : Counts (dims block) f n
+    room-counts : CountsCells (dims block) f n
     unfolding cellAt
     room-counts =
         record {
@@ -167,7 +167,7 @@ module _ (block : List ℤ) (r : ℕ) (some : 1 ≤ roomCells block r) where
 
 -- THE COVERED CELLS, each once, wherever they lie
 pub covered-counts : (block t : List ℤ) (rule : ℤ) → refusalFill block t rule ≡ 0
-    → Counts (dims block) (coversCell block t (ruleAsked rule)) (coveredCells block t (ruleAsked rule))
+    → CountsCells (dims block) (coversCell block t (ruleAsked rule)) (coveredCells block t (ruleAsked rule))
 unfolding coveredCells
 covered-counts block t rule e =
     room-counts block (ruleAsked rule) (fill-asked block t rule e .some-cells) (coversCell block t (ruleAsked rule))
@@ -218,7 +218,7 @@ pigeonhole (suc n) (suc m) s below once =
     other : (i : ℕ) (h : i < n) → s i (up h) ≡ last → ⊥
     other i h e = let q = once i n (up h) top e in omega arith
 
-counts-upto : {k n m : ℕ} {f : List ℤ → Bool} → Counts k f n → Counts k f m → n ≤ m
+counts-upto : {k n m : ℕ} {f : List ℤ → Bool} → CountsCells k f n → CountsCells k f m → n ≤ m
 counts-upto {n} {m} x y =
     pigeonhole n m (λ i h. at i h .0) (λ i h. at i h .1) (λ i j h k e. x .once i j h k (sym (at i h .2) ∙ ap (y .cell) e ∙ at j k .2))
   where
@@ -226,5 +226,5 @@ counts-upto {n} {m} x y =
     at i h = y .each (x .cell i) (x .coordinates i h) (x .passes i h)
 
 -- ONLY ONE NUMBER is that of the cells that pass
-pub counts-unique : {k n m : ℕ} {f : List ℤ → Bool} → Counts k f n → Counts k f m → n ≡ m
+pub counts-unique : {k n m : ℕ} {f : List ℤ → Bool} → CountsCells k f n → CountsCells k f m → n ≡ m
 counts-unique x y = le-antisymm (counts-upto x y) (counts-upto y x)

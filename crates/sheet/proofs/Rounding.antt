@@ -6,17 +6,17 @@ use Prim.Native.Nat.{ℕ, _+_, _*_, _/_, _≤_, _<_}
 use native.Mathlib.Nat.{le-antisymm, le-refl, suc-mul, mul-left-comm, mul-le-mul-right, div-mul-le-self, lt-div-mul-add}
 use native.Mathlib.Omega.{arith}
 use Rattle.integers.proofs.Below.{below-or}
-use Rattle.sheet.specs.Fill.{apart, Nearest, halfUp, permille}
+use Rattle.sheet.specs.Fill.{distance, Nearest, halfUp, permille}
 
 -- p, a multiple of n, is at most half of n above a, and less than half below; so of the other multiples
 -- those before it are no nearer to a, and those after it farther
 module _ (a n p q : ℕ) (above : 2 * p ≤ 2 * a + n) (below : 2 * a + n < 2 * p + 2 * n) where
-  before : q + n ≤ p → apart p a ≤ apart q a
-  unfolding apart
+  before : q + n ≤ p → distance p a ≤ distance q a
+  unfolding distance
   before h = omega arith
 
-  after : p + n ≤ q → apart p a < apart q a
-  unfolding apart
+  after : p + n ≤ q → distance p a < distance q a
+  unfolding distance
   after h = omega arith
 
 next-multiple : (n : ℕ) {f g : ℕ} → f < g → f * n + n ≤ g * n
@@ -41,16 +41,16 @@ half-up-nearest a n h = record { nearest = nearest; greater = greater }
     ends : (2 * (f * n) ≤ 2 * a + n) × (2 * a + n < 2 * (f * n) + 2 * n)
     ends = half-up-ends a n h
 
-    farther : (g : ℕ) → f < g → apart (f * n) a < apart (g * n) a
+    farther : (g : ℕ) → f < g → distance (f * n) a < distance (g * n) a
     farther g l = after a n (f * n) (g * n) (ends .0) (ends .1) (next-multiple n l)
 
-    nearest : (g : ℕ) → apart (f * n) a ≤ apart (g * n) a
+    nearest : (g : ℕ) → distance (f * n) a ≤ distance (g * n) a
     nearest g =
         ⊎-elim (λ l. before a n (f * n) (g * n) (ends .0) (ends .1) (next-multiple n l))
         (λ l. ⊎-elim (λ m. omega (arith, farther g m)) (λ m. let e : f ≡ g = le-antisymm l m in rw e (le-refl _)) (below-or f g))
         (below-or g f)
 
-    greater : (g : ℕ) → apart (g * n) a ≤ apart (f * n) a → g ≤ f
+    greater : (g : ℕ) → distance (g * n) a ≤ distance (f * n) a → g ≤ f
     greater g k = ⊎-elim (λ l. absurd (omega (arith, farther g l))) (λ l. l) (below-or f g)
 
 pub nearest-unique : {a n f g : ℕ} → Nearest a n f → Nearest a n g → f ≡ g

@@ -58,7 +58,7 @@ module _ (block : List ℤ) where
 -- ---- each cell once
 
 -- n is the number of the cells that pass f: they are numbered from 0, each once. A cell is a list of k coordinates.
-pub record Counts (k : ℕ) (f : List ℤ → Bool) (n : ℕ) : Type 0 where
+pub record CountsCells (k : ℕ) (f : List ℤ → Bool) (n : ℕ) : Type 0 where
   pub cell : ℕ → List ℤ
   pub coordinates : (j : ℕ) → j < n → length (cell j) ≡ k
   pub passes : (j : ℕ) → j < n → f (cell j) ≡ true
@@ -67,14 +67,14 @@ pub record Counts (k : ℕ) (f : List ℤ → Bool) (n : ℕ) : Type 0 where
 
 -- ---- the figure
 
--- how far apart two numbers are
-unfoldable pub apart : ℕ → ℕ → ℕ
-apart x y = (x - y) + (y - x)
+-- how far two numbers lie from each other
+unfoldable pub distance : ℕ → ℕ → ℕ
+distance x y = (x - y) + (y - x)
 
 -- f is the whole number nearest to a / n, and the greater of two that are as near
 pub record Nearest (a n f : ℕ) : Type 0 where
-  pub nearest : (g : ℕ) → apart (f * n) a ≤ apart (g * n) a
-  pub greater : (g : ℕ) → apart (g * n) a ≤ apart (f * n) a → g ≤ f
+  pub nearest : (g : ℕ) → distance (f * n) a ≤ distance (g * n) a
+  pub greater : (g : ℕ) → distance (g * n) a ≤ distance (f * n) a → g ≤ f
 
 -- a / n, rounded to the nearest whole number, a half going up
 unfoldable pub halfUp : ℕ → ℕ → ℕ
@@ -86,5 +86,5 @@ permille c n = halfUp (1000 * c) n
 
 -- one name that opens every definition above: `unfolding filling`
 unfoldable pub filling : Unit {0}
-unfolding ruleAsked isFillRule roomWidth roomCells cellsFrom boxCovers rowCovers coversCell coveredCells apart halfUp permille
+unfolding ruleAsked isFillRule roomWidth roomCells cellsFrom boxCovers rowCovers coversCell coveredCells distance halfUp permille
 filling = tt

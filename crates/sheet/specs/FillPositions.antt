@@ -41,20 +41,20 @@ allAnswered (c ∷ cs) =
 
 -- ---- the sheets
 -- k = 2: shape 1 is one cell, shape 2 two squares that share a cell, shape 3 three cells in a line; the rules follow
-unfoldable pub cells : ℕ → List ℕ → List ℤ
-cells n rest = words (2 ∷ 4 ∷ n ∷ 1 ∷ 0 ∷ 0 ∷ 1 ∷ 1 ∷ 2 ∷ 0 ∷ 0 ∷ 2 ∷ 2 ∷ 2 ∷ 1 ∷ 1 ∷ 2 ∷ 2 ∷ 3 ∷ 0 ∷ 0 ∷ 3 ∷ 1 ∷ []) ++ words rest
+unfoldable pub withRules : ℕ → List ℕ → List ℤ
+withRules n rest = words (2 ∷ 4 ∷ n ∷ 1 ∷ 0 ∷ 0 ∷ 1 ∷ 1 ∷ 2 ∷ 0 ∷ 0 ∷ 2 ∷ 2 ∷ 2 ∷ 1 ∷ 1 ∷ 2 ∷ 2 ∷ 3 ∷ 0 ∷ 0 ∷ 3 ∷ 1 ∷ []) ++ words rest
 
 -- one rule: a room of a by b cells for the rows of a set
 unfoldable pub roomFor : ℕ → ℕ → ℕ → List ℤ
-roomFor set a b = cells 1 (2 ∷ 3 ∷ set ∷ 0 ∷ a ∷ 0 ∷ b ∷ [])
+roomFor set a b = withRules 1 (2 ∷ 3 ∷ set ∷ 0 ∷ a ∷ 0 ∷ b ∷ [])
 
 -- the same room of 4 by 4 cells in the dimensions of a set, beside a non-overlap rule
 unfoldable pub roomBeside : ℕ → List ℤ
-roomBeside dims = cells 2 (1 ∷ 3 ∷ 3 ∷ 0 ∷ 0 ∷ 0 ∷ 0 ∷ 2 ∷ dims ∷ 3 ∷ 0 ∷ 4 ∷ 0 ∷ 0 ∷ [])
+roomBeside dims = withRules 2 (1 ∷ 3 ∷ 3 ∷ 0 ∷ 0 ∷ 0 ∷ 0 ∷ 2 ∷ dims ∷ 3 ∷ 0 ∷ 4 ∷ 0 ∷ 0 ∷ [])
 
 -- the row's set of shapes, at (x, y)
-unfoldable pub at : ℕ → ℕ → ℕ → List ℤ
-at set x y = row2 set x x y y
+unfoldable pub placed : ℕ → ℕ → ℕ → List ℤ
+placed set x y = row2 set x x y y
 
 -- k = 1: one shape of size 3, in a room from −2 to 5
 unfoldable pub corridor : List ℤ
@@ -76,37 +76,37 @@ case b t r e = record { block = b; table = t; rule = r; expected = e }
 
 unfoldable pub fills : List FillCase
 fills =
-    case (roomFor 1 4 4) (at 1 0 0) (pos 1) (covers 1 63)
-    ∷ case (roomFor 1 4 4) (at 4 0 0) (pos 1) (covers 3 188)
-    ∷ case (roomFor 1 4 4) (at 2 0 0) (pos 1) (covers 7 438)
+    case (roomFor 1 4 4) (placed 1 0 0) (pos 1) (covers 1 63)
+    ∷ case (roomFor 1 4 4) (placed 4 0 0) (pos 1) (covers 3 188)
+    ∷ case (roomFor 1 4 4) (placed 2 0 0) (pos 1) (covers 7 438)
     -- two rows on one cell; two that share two cells; a row that is not named
-    ∷ case (roomFor 3 4 4) (at 1 0 0 ++ at 1 0 0) (pos 1) (covers 1 63)
-    ∷ case (roomFor 3 4 4) (at 4 0 0 ++ at 4 1 0) (pos 1) (covers 4 250)
-    ∷ case (roomFor 1 4 4) (at 1 0 0 ++ at 4 1 1) (pos 1) (covers 1 63)
-    ∷ case (roomFor 2 4 4) (at 1 0 0 ++ at 4 1 1) (pos 1) (covers 3 188)
+    ∷ case (roomFor 3 4 4) (placed 1 0 0 ++ placed 1 0 0) (pos 1) (covers 1 63)
+    ∷ case (roomFor 3 4 4) (placed 4 0 0 ++ placed 4 1 0) (pos 1) (covers 4 250)
+    ∷ case (roomFor 1 4 4) (placed 1 0 0 ++ placed 4 1 1) (pos 1) (covers 1 63)
+    ∷ case (roomFor 2 4 4) (placed 1 0 0 ++ placed 4 1 1) (pos 1) (covers 3 188)
     -- one and three dimensions
     ∷ case corridor (row 1 (minus 2) (minus 2)) (pos 1) (covers 3 429)
     ∷ case corridor (row 1 (pos 2) (pos 2)) (pos 1) (covers 3 429)
     ∷ case solid (words (1 ∷ 0 ∷ 0 ∷ 2 ∷ 2 ∷ 1 ∷ 1 ∷ [])) (pos 1) (covers 6 250)
     -- 12 before 13; 13: no such rule, a rule of kind 1, a rule that names one dimension
     ∷ case (roomFor 1 4 4) (row2 1 0 1 0 0) (pos 9) (turnedAway 12)
-    ∷ case (roomFor 1 4 4) (at 1 0 0) (pos 0) (turnedAway 13)
-    ∷ case (roomFor 1 4 4) (at 1 0 0) (minus 1) (turnedAway 13)
-    ∷ case (roomFor 1 4 4) (at 1 0 0) (pos 2) (turnedAway 13)
-    ∷ case (roomBeside 1) (at 1 0 0 ++ at 1 1 0) (pos 1) (turnedAway 13)
-    ∷ case (roomBeside 1) (at 1 0 0 ++ at 1 1 0) (pos 2) (turnedAway 13)
+    ∷ case (roomFor 1 4 4) (placed 1 0 0) (pos 0) (turnedAway 13)
+    ∷ case (roomFor 1 4 4) (placed 1 0 0) (minus 1) (turnedAway 13)
+    ∷ case (roomFor 1 4 4) (placed 1 0 0) (pos 2) (turnedAway 13)
+    ∷ case (roomBeside 1) (placed 1 0 0 ++ placed 1 1 0) (pos 1) (turnedAway 13)
+    ∷ case (roomBeside 1) (placed 1 0 0 ++ placed 1 1 0) (pos 2) (turnedAway 13)
     -- 14, also where the row lies outside: no cell, 4,097 and the largest room
-    ∷ case (roomFor 1 0 4) (at 1 0 0) (pos 1) (turnedAway 14)
-    ∷ case (roomFor 1 17 241) (at 1 0 0) (pos 1) (turnedAway 14)
+    ∷ case (roomFor 1 0 4) (placed 1 0 0) (pos 1) (turnedAway 14)
+    ∷ case (roomFor 1 17 241) (placed 1 0 0) (pos 1) (turnedAway 14)
     ∷ case largest (words (1 ∷ 0 ∷ 0 ∷ 0 ∷ 0 ∷ 0 ∷ 0 ∷ 0 ∷ 0 ∷ [])) (pos 1) (turnedAway 14)
     -- 15: a named row outside the room; two rows of another rule that overlap
-    ∷ case (roomFor 1 4 4) (at 1 4 0) (pos 1) (turnedAway 15)
-    ∷ case (cells 2 (2 ∷ 3 ∷ 1 ∷ 0 ∷ 4 ∷ 0 ∷ 4 ∷ 1 ∷ 3 ∷ 6 ∷ 0 ∷ 0 ∷ 0 ∷ 0 ∷ [])) (at 1 0 0 ++ at 1 9 9 ++ at 1 9 9) (pos 1) (turnedAway 15)
+    ∷ case (roomFor 1 4 4) (placed 1 4 0) (pos 1) (turnedAway 15)
+    ∷ case (withRules 2 (2 ∷ 3 ∷ 1 ∷ 0 ∷ 4 ∷ 0 ∷ 4 ∷ 1 ∷ 3 ∷ 6 ∷ 0 ∷ 0 ∷ 0 ∷ 0 ∷ [])) (placed 1 0 0 ++ placed 1 9 9 ++ placed 1 9 9) (pos 1) (turnedAway 15)
     ∷ []
 
 -- THE CASES OF T-03: the checker computes that every one passes
 pub fills-pass : T (allAnswered fills)
-unfolding computing isAnswered allAnswered words row row2 cells roomFor roomBeside at corridor solid largest fills
+unfolding computing isAnswered allAnswered words row row2 withRules roomFor roomBeside placed corridor solid largest fills
 fills-pass = tt
 
 -- ---- the limits: 4,096 cells are counted, 4,097 are not
@@ -114,7 +114,7 @@ unfoldable pub isCounted : ℕ → ℕ → Bool
 isCounted a b = eqb (roomCells (roomFor 1 a b) 0) 4096 && elim (badCells (roomFor 1 a b) 0) [ true ↦ false | false ↦ true ]
 
 pub limits-pass : T (isCounted 64 64 && isCounted 1 4096 && badCells (roomFor 1 17 241) 0 && badCells (roomFor 1 0 4096) 0)
-unfolding computing words cells roomFor isCounted
+unfolding computing words withRules roomFor isCounted
 limits-pass = tt
 
 -- ---- the figure: a half goes up, what lies beside it to the nearer number

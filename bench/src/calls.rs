@@ -15,9 +15,9 @@ pub fn nanoseconds(times: usize, calls: usize, subjects: &[&dyn Fn()]) -> Vec<f6
     least
 }
 
-/// Of each line's time of the kernel, divided by that of plain Rust.
-pub fn print_ratios(ratios: &[f64]) {
+/// Of each line's time of the kernel, divided by that of a plain form.
+pub fn print_ratios(name: &str, ratios: &[f64]) {
     let worst = ratios.iter().copied().fold(0.0, f64::max);
     let mean = crate::geometric_mean(ratios.iter().copied());
-    println!("\nkernel/plain: geometric mean {mean:.2}, worst line {worst:.2}");
+    println!("{name}: geometric mean {mean:.2}, worst line {worst:.2}");
 }

@@ -1,7 +1,7 @@
 //! The fill of a room (document 02, T-03), in plain Rust, and the kernel beside it.
 
 use crate::calls::{nanoseconds, print_ratios};
-use crate::decode::{Copies, Decoded, Point, Rows};
+use crate::decode::{Copies, Decoded, Point, Rows, Solid};
 use crate::generate::Random;
 use crate::kernel::{self, Share};
 use crate::relation::is_fixed;
@@ -14,14 +14,33 @@ use std::process::ExitCode;
 const MOST_CELLS: usize = 4096;
 
 /// The refusal, 0 and 0; or 0, the cells covered and how many thousandths of the room's they are.
-pub fn fill(block: &[i64], table: &[i64], rule: i64) -> (i64, i64, i64) {
-    match filled(block, table, rule) {
+pub type Answer = (i64, i64, i64);
+
+/// As the request reads: every pair of boxes of two rows is looked at, and every cell of the room with every box.
+pub fn plain(block: &[i64], table: &[i64], rule: i64) -> Answer {
+    answer(filled(block, table, rule, is_good, Room::covered))
+}
+
+/// With every short cut that is known here: each pair of rows once, hulls first, and boxes marked line by line.
+pub fn tuned(block: &[i64], table: &[i64], rule: i64) -> Answer {
+    answer(filled(block, table, rule, is_good_by_hulls, Room::marked))
+}
+
+fn answer(found: Result<(i64, i64), i64>) -> Answer {
+    match found {
         Ok((cells, permille)) => (0, cells, permille),
         Err(refused) => (refused, 0, 0),
     }
 }
 
-fn filled(block: &[i64], table: &[i64], rule: i64) -> Result<(i64, i64), i64> {
+#[inline(always)]
+fn filled(
+    block: &[i64],
+    table: &[i64],
+    rule: i64,
+    is_good: impl Fn(&Decoded, &Rows) -> bool,
+    covered: impl Fn(&Room, &Decoded, &Rows, usize) -> i64,
+) -> Result<(i64, i64), i64> {
     let refused = refusal(block, table);
     if refused != 0 {
         return Err(refused);
@@ -33,15 +52,29 @@ fn filled(block: &[i64], table: &[i64], rule: i64) -> Result<(i64, i64), i64> {
     let cells = room.cells().ok_or(14)?;
     let sheet = Decoded::new(block, table.len(), Copies::Kept);
     let rows = sheet.read_rows(table);
-    if !good(&sheet, &rows) {
+    if !is_good(&sheet, &rows) {
         return Err(15);
     }
-    let covered = room.covered(&sheet, &rows, cells);
-    Ok((covered, (2000 * covered + cells as i64) / (2 * cells as i64)))
+    let c = covered(&room, &sheet, &rows, cells);
+    Ok((c, (2000 * c + cells as i64) / (2 * cells as i64)))
 }
 
-/// Whether each row lies in its rooms and is clear of the rows before it, of a fixed placement.
-fn good(sheet: &Decoded, rows: &Rows) -> bool {
+/// Whether each row lies in its rooms and no box of another row that a rule names with it is in its way, of a fixed placement.
+fn is_good(sheet: &Decoded, rows: &Rows) -> bool {
+    (0..sheet.n).all(|i| {
+        let (s, p) = (rows[i].shape(), &rows[i].area.low);
+        let clear = |rule, j: usize| {
+            let cores = sheet.boxes_of(rows[j].shape()).iter().map(|c| c.core(&rows[j], rule));
+            cores.into_iter().all(|core| sheet.boxes_of(s).iter().all(|b| !b.hits(p, &core)))
+        };
+        let mut aparts = sheet.aparts.iter().filter(|rule| rule.rows >> i & 1 == 1);
+        !sheet.cut(i, s, &rows[i].area).is_empty()
+            && aparts.all(|rule| (0..sheet.n).filter(|&j| j != i && rule.rows >> j & 1 == 1).all(|j| clear(rule, j)))
+    })
+}
+
+/// The same, each row against the rows before it.
+fn is_good_by_hulls(sheet: &Decoded, rows: &Rows) -> bool {
     (0..sheet.n).all(|i| {
         let (s, p) = (rows[i].shape(), &rows[i].area.low);
         let clear = |rule, j: usize| {
@@ -84,8 +117,23 @@ impl Room {
         product.filter(|&n| n > 0)
     }
 
-    /// How many of its cells the boxes of its rows cover, in a good placement.
+    /// How many of its cells the boxes of its rows cover: each cell is looked at.
     fn covered(&self, sheet: &Decoded, rows: &Rows, cells: usize) -> i64 {
+        let named = || rows[..sheet.n].iter().enumerate().filter(|(i, _)| self.rows >> i & 1 == 1).map(|(_, row)| row);
+        let is_covered = |cell: &usize| {
+            let place = place_of(&self.widths, *cell);
+            let x: Point = from_fn(|d| self.low[d] + place[d] as i64);
+            named().any(|row| {
+                let holds =
+                    |b: &Solid| (0..MAX_DIMS).all(|d| (b.start[d]..b.end[d]).contains(&(x[d] - row.area.low[d])));
+                sheet.boxes_of(row.shape()).iter().any(holds)
+            })
+        };
+        (0..cells).filter(is_covered).count() as i64
+    }
+
+    /// The same, of a good placement: each box is marked.
+    fn marked(&self, sheet: &Decoded, rows: &Rows, cells: usize) -> i64 {
         let mut marks = [false; MOST_CELLS];
         for (_, row) in rows[..sheet.n].iter().enumerate().filter(|(i, _)| self.rows >> i & 1 == 1) {
             for solid in sheet.boxes_of(row.shape()) {
@@ -100,6 +148,16 @@ impl Room {
 /// One number for each dimension.
 type Numbers = [usize; MAX_DIMS];
 
+/// The place of a cell in a grid whose cells are numbered along dimension 0 first.
+fn place_of(widths: &Numbers, cell: usize) -> Numbers {
+    let mut rest = cell;
+    from_fn(|d| {
+        let x = rest % widths[d];
+        rest /= widths[d];
+        x
+    })
+}
+
 /// The cells of a grid from one corner to another, line by line along dimension 0.
 #[inline(always)]
 fn for_lines(widths: &Numbers, from: Numbers, to: Numbers, mut found: impl FnMut(Range<usize>)) {
@@ -113,39 +171,40 @@ fn for_lines(widths: &Numbers, from: Numbers, to: Numbers, mut found: impl FnMut
     }
 }
 
-/// As `fill`.
-pub fn kernel_fill(block: &[i64], table: &[i64], rule: i64) -> (i64, i64, i64) {
+/// As `plain`.
+pub fn kernel_fill(block: &[i64], table: &[i64], rule: i64) -> Answer {
     let Share { finding, cells, permille } = kernel::fill(block, table, rule);
     (finding, cells, permille)
 }
 
-/// Nanoseconds a call on a placement: the judging of it alone, the kernel, plain Rust.
+/// Nanoseconds a call on a placement: the judging of it alone, the kernel, and the two plain forms.
 pub fn table() -> ExitCode {
-    println!("cells dims rows boxes  covered    judged    kernel     plain  kernel/plain");
-    let mut ratios = Vec::new();
+    println!("cells dims rows boxes  covered    judged    kernel     plain     tuned  kernel/plain  kernel/tuned");
+    let (mut to_plain, mut to_tuned) = (Vec::new(), Vec::new());
     for cells in [256, MOST_CELLS] {
         for dims in 1..=MAX_DIMS {
             for (rows, boxes) in [(8, 1), (8, 4), (32, 1), (32, 4)] {
                 let Sheet { block, table } = &placement(cells, dims, rows, boxes, 1);
-                let found = fill(block, table, ROOM_RULE);
-                if found.0 != 0 || found != kernel_fill(block, table, ROOM_RULE) {
-                    eprintln!("{cells} {dims} {rows} {boxes}: {found:?} is not the kernel's answer, or is refused");
+                let found = plain(block, table, ROOM_RULE);
+                if found.0 != 0 || [tuned, kernel_fill].iter().any(|fill| fill(block, table, ROOM_RULE) != found) {
+                    eprintln!("{cells} {dims} {rows} {boxes}: {found:?} is refused, or not every form's answer");
                     return ExitCode::FAILURE;
                 }
-                let judged = || kernel::check_placement(block, black_box(table));
-                let proved = || kernel_fill(block, black_box(table), ROOM_RULE);
-                let plain = || fill(block, black_box(table), ROOM_RULE);
-                let subjects: [&dyn Fn(); 3] =
-                    [&|| _ = black_box(judged()), &|| _ = black_box(proved()), &|| _ = black_box(plain())];
-                let times = nanoseconds(50, 1, &subjects);
-                let [a, b, c] = [times[0], times[1], times[2]];
-                ratios.push(b / c);
+                let call =
+                    |fill: fn(&[i64], &[i64], i64) -> Answer| _ = black_box(fill(block, black_box(table), ROOM_RULE));
+                let judged = || _ = black_box(kernel::check_placement(block, black_box(table)));
+                let times = nanoseconds(50, 1, &[&judged, &|| call(kernel_fill), &|| call(plain), &|| call(tuned)]);
+                let [a, b, c, d] = [times[0], times[1], times[2], times[3]];
+                to_plain.push(b / c);
+                to_tuned.push(b / d);
                 print!("{cells:>5} {dims:>4} {rows:>4} {boxes:>5} {:>8} ", found.1);
-                println!("{a:9.0} {b:9.0} {c:9.0} {:13.2}", b / c);
+                println!("{a:9.0} {b:9.0} {c:9.0} {d:9.0} {:13.2} {:13.2}", b / c, b / d);
             }
         }
     }
-    print_ratios(&ratios);
+    println!();
+    print_ratios("kernel/plain", &to_plain);
+    print_ratios("kernel/tuned", &to_tuned);
     ExitCode::SUCCESS
 }
 
@@ -207,14 +266,6 @@ fn shapes(random: &mut Random, widths: &Numbers, most: usize, boxes: usize) -> V
 
 /// The first place at which the boxes lie in the room and take free cells alone; these are then taken.
 fn take_place(taken: &mut [bool], widths: &Numbers, parts: &[Part]) -> Option<Numbers> {
-    let place_of = |cell: usize| {
-        let mut rest = cell;
-        from_fn(|d| {
-            let x = rest % widths[d];
-            rest /= widths[d];
-            x
-        })
-    };
     let ends = |place: &Numbers, (offset, size): &Part| -> (Numbers, Numbers) {
         (from_fn(|d| place[d] + offset[d]), from_fn(|d| place[d] + offset[d] + size[d]))
     };
@@ -226,7 +277,9 @@ fn take_place(taken: &mut [bool], widths: &Numbers, parts: &[Part]) -> Option<Nu
         }
         free
     };
-    let place = (0..taken.len()).map(place_of).find(|place| parts.iter().all(|part| is_free(place, part)))?;
+    let place = (0..taken.len())
+        .map(|cell| place_of(widths, cell))
+        .find(|place| parts.iter().all(|part| is_free(place, part)))?;
     for part in parts {
         let (from, to) = ends(&place, part);
         for_lines(widths, from, to, |line| taken[line].fill(true));

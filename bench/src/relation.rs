@@ -85,7 +85,8 @@ pub fn table() -> std::process::ExitCode {
             }
         }
     }
-    print_ratios(&ratios);
+    println!();
+    print_ratios("kernel/plain", &ratios);
     std::process::ExitCode::SUCCESS
 }
 

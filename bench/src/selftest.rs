@@ -3,7 +3,7 @@
 
 use crate::brute::{self, Brute};
 #[cfg(kernel)]
-use crate::fill::{fill, kernel_fill, placement};
+use crate::fill::{kernel_fill, placement, plain, tuned};
 use crate::generate::{line_sheet, small_sheet, Line, Random, STYLES};
 #[cfg(kernel)]
 use crate::relation::relation;
@@ -141,7 +141,7 @@ fn damaged(sheet: &Sheet, random: &mut Random, counts: &mut Counts) {
     #[cfg(kernel)]
     {
         counts.compare("zk_refusal", &bad, crate::kernel::refusal(&bad.block, &bad.table), expected);
-        counts.compare("zk_fill", &bad, kernel_fill(&bad.block, &bad.table, 1), fill(&bad.block, &bad.table, 1));
+        counts.compare("zk_fill", &bad, kernel_fill(&bad.block, &bad.table, 1), plain(&bad.block, &bad.table, 1));
     }
     if expected != 0 {
         for (name, settle) in SUBJECTS {
@@ -246,8 +246,9 @@ fn fills(sheet: &Sheet, random: &mut Random, counts: &mut Counts) {
     let good = placement(cells, random.range(1, 4) as usize, rows, random.range(1, 4) as usize, random.next());
     for Sheet { block, table } in [&Sheet { block: sheet.block.clone(), table }, &good] {
         for rule in -1..=block[2] + 1 {
-            let expected = fill(block, table, rule);
+            let expected = plain(block, table, rule);
             counts.compare("zk_fill", sheet, kernel_fill(block, table, rule), expected);
+            counts.compare("tuned fill", sheet, tuned(block, table, rule), expected);
             counts.calls += 1;
             counts.fills += (expected.0 == 0) as usize;
         }

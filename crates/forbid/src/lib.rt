@@ -1,5 +1,6 @@
 // The points that the non-overlap rules (kind 1) forbid to a row: a forbidden point, with an area around it in which every point is
 // forbidden. Everything of the kernel that asks what a rule of kind 1 forbids asks here.
+pub mod clash;
 pub mod interval;
 pub mod pair;
 pub mod row;

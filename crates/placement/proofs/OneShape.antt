@@ -43,7 +43,7 @@ module _ (block t : List ℤ) (i : ℕ) (table : Table block t) (from : 1 ≤ i)
   shape-below = one-lt 32 small one
 
   -- the one shape, where the set's trailing zeros end
-  shape : hasOnly block t i (suc (trailingZeros 32 set)) ≡ true
+  pub shape : hasOnly block t i (suc (trailingZeros 32 set)) ≡ true
   unfolding hasOnly
   shape = only-shape 32 (shapeSet block t i) small one
 

@@ -1,4 +1,4 @@
--- What judging a row leans on, and when a row of a placement is good. Assumes nothing.
+-- What judging a placement leans on, and when a row of it is good. Assumes nothing.
 use mathlib.Core.Path.{_≡_}
 use mathlib.Core.Bool.{Bool, true}
 use mathlib.Core.List.{List}
@@ -9,16 +9,7 @@ use Rattle.sheet.specs.Layout.{hasShape}
 use Rattle.sheet.specs.Allowed.{allowed}
 use Rattle.sheet.specs.Placement.{fixed, pointOf}
 use Rattle.sheet.specs.Accepted.{Block, Table}
-use Rattle.words.specs.declared.Place.{Place}
-use Rattle.words.specs.Places.{RowPlace}
 use Rattle.outline.specs.Outline.{Outline}
-
--- a row of an accepted sheet, whose outline is o
-pub record Looks (block t o : List ℤ) (i : Place) : Type 0 where
-  pub accepted : Block block
-  pub table : Table block t
-  pub outline : Outline block o
-  pub row : RowPlace block t i
 
 -- an accepted sheet that is a fixed placement, and whose outline is o
 pub record FixedSheet (block t o : List ℤ) : Type 0 where

@@ -1,18 +1,19 @@
 // Looking at a sheet: whether a row with a shape is allowed at a point, and whether a fixed placement is good (document 01).
+mod judge;
+
 ghost use mathlib.Core.Path.{_≡_};
-ghost use mathlib.Core.Bool.{true};
 ghost use Prim.Native.Nat.{ℕ, _<_};
 ghost use Rattle.integers.specs.Integer.{nat};
 ghost use Rattle.integers.specs.Words.{word};
 ghost use Rattle.sheet.specs.Layout.{axes, low};
 ghost use Rattle.sheet.specs.Allowed.{allowed};
-ghost use Rattle.sheet.specs.Placement.{rowFixed, good};
+ghost use Rattle.sheet.specs.Placement.{good};
 ghost use Rattle.sheet.specs.Refusal.{refusalShape, refusalPlacement};
 ghost use Rattle.sheet.specs.Answer.{pointAnswer, verdictAnswer};
 ghost use Rattle.sheet.specs.Accepted.{Block, Table};
 ghost use Rattle.words.specs.Places.{RowPlace};
 ghost use Rattle.outline.specs.Outline.{Subject};
-ghost use Rattle.placement.specs.Rows.{Looks, FixedSheet, rowGood};
+ghost use Rattle.placement.specs.Rows.{FixedSheet};
 use outline::OUTLINE;
 use points::COORDINATES;
 use sheet::PointTest;
@@ -83,17 +84,6 @@ fn origin(block: &[i64], table: &[i64], i: Place) -> [i64; COORDINATES]
     p
 }
 
-// Whether a fixed row stands at its point, with its one shape.
-fn row_good(block: &[i64], table: &[i64], outline: &[i64; OUTLINE], i: Place) -> bool
-    requires { ⌜ Looks (now block) (now table) (now outline) i
-        × (rowFixed (now block) (now table) (i .number) ≡ true) ⌝ }
-    ensures { λ r. ⌜ r ≡ rowGood (now (block .entry)) (now (table .entry)) (i .number) ⌝ }
-{
-    let set = words::shapes_of(block, table, i);
-    let s = u32::trailing_zeros(set) as usize + 1;
-    stands(block, table, outline, i, s, origin(block, table, i))
-}
-
 // Whether every row of a fixed placement stands at its point, with its one shape.
 pub fn all_good(block: &[i64], table: &[i64], outline: &[i64; OUTLINE]) -> bool
     requires { ⌜ FixedSheet (now block) (now table) (now outline) ⌝ }
@@ -102,7 +92,7 @@ pub fn all_good(block: &[i64], table: &[i64], outline: &[i64; OUTLINE]) -> bool
     let n = words::rows_of(block, table);
     let mut m = 0;
     while m < n {
-        if !row_good(block, table, outline, words::row_place(block, table, m + 1)) {
+        if !judge::row_stands(block, table, outline, words::row_place(block, table, m + 1)) {
             return false;
         }
         m += 1;

@@ -1,35 +1,36 @@
--- `placement::all_good` meets its contract: a row is tested a turn. Assumes nothing.
-use mathlib.Core.Path.{_≡_, sym, ap, _∙_}
-use mathlib.Core.Bool.{Bool, true}
+-- `placement::all_good` meets its contract: so far every row passed is clear of the rows before it. Assumes nothing.
+use mathlib.Core.Path.{sym, subst}
+use mathlib.Core.Logic.{⊎-elim}
 use Prim.Native.Nat.{ℕ, _+_, _-_, _≤_}
 use native.Mathlib.Omega.{arith}
 use borrow.Author.Needs.{needs}
 use denote.Ref.{now}
-use Rattle.integers.specs.Below.{allUpTo}
-use Rattle.integers.proofs.Below.{up-next, all-zero, upto-at}
-use Rattle.sheet.specs.Placement.{rowFixed, fixed, good}
-use Rattle.accept.proofs.Turns.{fails-by, passes-by, upto-next, upto-false, all-done}
+use Rattle.integers.proofs.Booleans.{not-true, not-false}
+use Rattle.integers.proofs.Below.{up-next, same-or}
+use Rattle.sheet.specs.Placement.{good}
+use Rattle.accept.proofs.Turns.{upto-false}
 use Rattle.placement.specs.Rows.{rowGood}
+use Rattle.placement.specs.Before.{Clear, Judged}
+use Rattle.placement.proofs.Earlier.{clear-good}
 use Rattle.placement.proofs.all_good.Statement.{statement}
 use Rattle.placement.proofs.all_good.Tie as tie
 
 abbrev Inv-loop : tie.InvT-loop
-Inv-loop block table outline n m₀ m = (m ≤ n) × (allUpTo m (rowGood block table) ≡ true)
+Inv-loop block table outline n m₀ m = (m ≤ n) × ((i : ℕ) → 1 ≤ i → i ≤ m → Clear block table i)
 
 abbrev μ-loop : tie.MeasureT-loop
 μ-loop block table outline n m₀ m = n - m
 
-abbrev test : tie.At-loop Inv-loop μ-loop → ℕ → Bool
-test c = let a = c .before .before .args in rowGood (now (a .block)) (now (a .table))
-
-answer : (c : tie.After-row-good Inv-loop μ-loop) → let l = c .before .before .before in c .row-good .result ≡ test l (l .loop .m + 1)
-answer c = c .row-good .ensures ∙ ap (test (c .before .before .before)) (c .before .row-place .ensures .1)
+-- what was found of the row at hand
+answer : (c : tie.After-row-stands Inv-loop μ-loop) → let l = c .before .before .before in let a = l .before .before .args in
+    Judged (now (a .block)) (now (a .table)) (l .loop .m + 1) (c .row-stands .result)
+answer c = rw (c .before .row-place .ensures .1) at (c .row-stands .ensures)
 
 rows-of-requires : tie.Need-rows-of-requires Inv-loop μ-loop
 rows-of-requires c κs = c .pre .accepted .head
 
 loop-holds : tie.Need-loop-holds Inv-loop μ-loop
-loop-holds c = (search needs, all-zero _)
+loop-holds c = (search needs, λ i h k. absurd (omega arith))
 
 add-row-place : tie.Need-add-row-place Inv-loop μ-loop
 add-row-place c = search needs
@@ -39,20 +40,16 @@ row-place-requires c κs =
     let s = c .before .before .before .pre in
     (s .accepted .head, s .table .whole, up-next (omega (arith, c .before .before .rows-of .ensures, c .loop-test .taken)))
 
-row-good-requires : tie.Need-row-good-requires Inv-loop μ-loop
-unfolding fixed
-row-good-requires c κs =
-    let s = c .before .before .before .before .pre in
-    let p = c .row-place .ensures .0 in (
-      record { accepted = s .accepted; table = s .table; outline = s .outline; row = p },
-      upto-at (rowFixed _ _) (s .all-fixed) _ (p .from) (p .upto),
-    )
+row-stands-requires : tie.Need-row-stands-requires Inv-loop μ-loop
+row-stands-requires c κs = (c .before .before .before .before .pre, c .row-place .ensures .0)
 
 returns : tie.Need-returns Inv-loop μ-loop
 unfolding good
 returns c =
     let l = c .before .before .before .before in
-    sym (upto-false (test l) (omega (arith, l .before .rows-of .ensures)) (fails-by (answer (c .before)) (c .if1 .taken)))
+    let a = l .before .before .args in
+    sym (upto-false (rowGood (now (a .block)) (now (a .table))) (omega (arith, l .before .rows-of .ensures))
+    (answer (c .before) .bad (not-true (c .if1 .taken))))
 
 add-m : tie.Need-add-m Inv-loop μ-loop
 add-m c = search needs
@@ -63,11 +60,16 @@ loop-less c = search needs
 loop-again : tie.Need-loop-again Inv-loop μ-loop
 loop-again c =
     let l = c .before .before .before .before in
-    (search needs, upto-next _ (test l) (l .loop .inv .1) (passes-by (answer (c .before)) (c .if1 .left)))
+    let here = answer (c .before) .clear (not-false (c .if1 .left)) in (
+      search needs,
+      λ i h k. ⊎-elim (λ q. subst (Clear _ _) (sym q) here) (λ q. l .loop .inv .1 i h (omega (arith, k, q))) (same-or i (l .loop .m + 1)),
+    )
 
 returns-2 : tie.Need-returns-2 Inv-loop μ-loop
-unfolding good
-returns-2 c = sym (all-done _ (c .before .loop .inv .1) (omega (arith, c .before .before .rows-of .ensures)))
+returns-2 c =
+    let s = c .before .before .before in
+    sym (clear-good _ _ (s .pre .table) (s .pre .all-fixed)
+    (λ i row. c .before .loop .inv .1 i (row .from) (omega (arith, c .before .before .rows-of .ensures, row .upto, c .loop-test .left))))
 
 pub all-good-spec : {M : Type 1} → statement M
 all-good-spec =
@@ -79,7 +81,7 @@ all-good-spec =
     loop-holds
     add-row-place
     row-place-requires
-    row-good-requires
+    row-stands-requires
     returns
     add-m
     loop-less

@@ -15,13 +15,15 @@ use Rattle.points.specs.Area.{InField}
 use Rattle.placement.specs.Rows.{FixedSheet, rowGood}
 
 module _ (block t : List ℤ) where
-  -- rule r forbids p to row i with shape s by row j, by some row before i; and some rule does
+  -- rule r names row j, which forbids p to row i with shape s
   unfoldable pub namedForbids : ℕ → ℕ → ℕ → List ℤ → ℕ → Bool
   namedForbids r i s p j = namesRow block r j && setForbids block t r p i s j
 
+  -- some row before i does
   unfoldable pub beforeForbids : ℕ → ℕ → ℕ → List ℤ → Bool
   beforeForbids r i s p = anyUpTo (i - 1) (namedForbids r i s p)
 
+  -- and rule r is of kind 1 and names row i
   unfoldable pub ruleForbids : ℕ → ℕ → List ℤ → ℕ → Bool
   ruleForbids i s p r = isNonOverlap block r && namesRow block r i && beforeForbids r i s p
 
@@ -34,7 +36,7 @@ module _ (block t : List ℤ) where
     pub upto : s ≤ 32
     pub only : hasOnly block t i s ≡ true
 
-  -- a shape and a point of a row of a placement, which is near enough
+  -- a row of a fixed placement, a shape of the sheet, and a point near enough
   pub record Judging (o : List ℤ) (i : Place) (s : ℕ) (p : List ℤ) : Type 0 where
     pub sheet : FixedSheet block t o
     pub row : RowPlace block t i
@@ -51,7 +53,7 @@ module _ (block t : List ℤ) where
     pub rooms : roomsHold block i shape point ≡ true
     pub free : forbiddenBefore i shape point ≡ false
 
-  -- what r says of row i: of a row that is forbidden by a later one alone, that is said of the later one
+  -- what the answer r says of row i. A row that only later rows forbid is clear: it is these that are bad.
   pub record Judged (i : ℕ) (r : Bool) : Type 0 where
     pub clear : r ≡ true → Clear i
     pub bad : r ≡ false → rowGood block t i ≡ false

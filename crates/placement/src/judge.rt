@@ -1,7 +1,7 @@
 // Judging a fixed row against the rows before it: of two rows that clash the later one is found bad, so each pair is looked at once.
 ghost use mathlib.Core.Path.{_≡_};
 ghost use mathlib.Core.Bool.{true};
-ghost use Prim.Native.Nat.{ℕ, _<_};
+ghost use Prim.Native.Nat.{_<_};
 ghost use Rattle.sheet.specs.Layout.{rules};
 ghost use Rattle.sheet.specs.Placement.{rowFixed};
 ghost use Rattle.sheet.specs.Accepted.{Table};

@@ -30,7 +30,8 @@ module _ (c : tie.After-holds) where
 
   in-cut : inArea (axes (top .args .block .now)) (c .before .cut-box .result) (found .origin .result) ≡ c .holds .result
   in-cut =
-      ap (λ (n : ℕ). inArea n (c .before .cut-box .result) (found .origin .result)) (sym (c .before .before .axes-of .ensures)) ∙ sym (c .holds .ensures)
+      ap (λ (n : ℕ). inArea n (c .before .cut-box .result) (found .origin .result)) (sym (c .before .before .axes-of .ensures))
+      ∙ sym (c .holds .ensures)
 
   -- what the box test says
   boxed : (inRanges (top .args .block .now) (top .args .table .now) (top .args .i .number) (found .origin .result)

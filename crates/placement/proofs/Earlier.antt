@@ -23,20 +23,20 @@ use Rattle.sheet.proofs.Coordinates.{Agree}
 use Rattle.sheet.proofs.Exchange.{at-point, exchange}
 use Rattle.sheet.proofs.Fixed.{Row, still}
 use Rattle.placement.specs.Rows.{rowGood}
-use Rattle.placement.specs.Before.{namedForbids, beforeForbids, ruleForbids, forbiddenBefore, Sole, Clear}
+use Rattle.placement.specs.Before.{namedForbids, beforeForbids, ruleForbidsBefore, forbiddenBefore, SoleShape, Clear}
 use Rattle.placement.proofs.OneShape.{sole, row-good-is}
 
 module _ (block t : List ℤ) where
   -- ---- the one shape of a row
-  pub held : {i s : ℕ} → Sole block t i s → hasShape block t i s ≡ true
+  pub held : {i s : ℕ} → SoleShape block t i s → hasShape block t i s ≡ true
   unfolding hasShape hasOnly
   held {i} {s} o = only-held (shapeSet block t i) s (o .only)
 
-  same : {i s x : ℕ} → Sole block t i s → hasOnly block t i x ≡ true → x ≡ s
+  same : {i s x : ℕ} → SoleShape block t i s → hasOnly block t i x ≡ true → x ≡ s
   unfolding hasOnly
   same {i} {x} o e = same-only (shapeSet block t i) (o .only) (only-held (shapeSet block t i) x e)
 
-  pub sole-set : {j s' : ℕ} → Sole block t j s' → (r i s : ℕ) (p : List ℤ)
+  pub sole-set : {j s' : ℕ} → SoleShape block t j s' → (r i s : ℕ) (p : List ℤ)
       → shapesForbid block t r p i s j s' ≡ setForbids block t r p i s j
   sole-set {j} {s'} o r i s p =
       both-ways _ _
@@ -46,13 +46,13 @@ module _ (block t : List ℤ) where
 
   -- ---- a row before i
   before-by : (i s : ℕ) (p : List ℤ) (f : Forbids block t i s p) → f .other < i → forbiddenBefore block t i s p ≡ true
-  unfolding forbiddenBefore ruleForbids beforeForbids namedForbids
+  unfolding forbiddenBefore ruleForbidsBefore beforeForbids namedForbids
   before-by i s p f l =
-      any-true (ruleForbids block t i s p) (f .rule) (f .rule-below) (true-and (true-and (f .kind) (f .names))
+      any-true (ruleForbidsBefore block t i s p) (f .rule) (f .rule-below) (true-and (true-and (f .kind) (f .names))
       (upto-some (namedForbids block t (f .rule) i s p) (f .other) (f .from) (omega (arith, l)) (true-and (f .names-other) (f .set))))
 
   before-forbids : (i s : ℕ) (p : List ℤ) → Row block t i → forbiddenBefore block t i s p ≡ true → forbidden block t i s p ≡ true
-  unfolding forbiddenBefore ruleForbids beforeForbids namedForbids
+  unfolding forbiddenBefore ruleForbidsBefore beforeForbids namedForbids
   before-forbids i s p row e =
       let r = any-at e in
       let r2 = and-true (r .2) in
@@ -91,7 +91,7 @@ module _ (block t : List ℤ) where
     unfolding fixed
     row-fixed {i} h = upto-at (rowFixed block t) all-fixed i (h .from) (h .upto)
 
-    module _ {i s : ℕ} (row : Row block t i) (o : Sole block t i s) (p : List ℤ)
+    module _ {i s : ℕ} (row : Row block t i) (o : SoleShape block t i s) (p : List ℤ)
         (at : (d : ℕ) → d < axes block → word p d ≡ low block t i d) where
       allowed-is : allowed block t i s p ≡ rowGood block t i
       allowed-is =

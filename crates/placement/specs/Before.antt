@@ -24,14 +24,14 @@ module _ (block t : List ℤ) where
   beforeForbids r i s p = anyUpTo (i - 1) (namedForbids r i s p)
 
   -- and rule r is of kind 1 and names row i
-  unfoldable pub ruleForbids : ℕ → ℕ → List ℤ → ℕ → Bool
-  ruleForbids i s p r = isNonOverlap block r && namesRow block r i && beforeForbids r i s p
+  unfoldable pub ruleForbidsBefore : ℕ → ℕ → List ℤ → ℕ → Bool
+  ruleForbidsBefore i s p r = isNonOverlap block r && namesRow block r i && beforeForbids r i s p
 
   unfoldable pub forbiddenBefore : ℕ → ℕ → List ℤ → Bool
-  forbiddenBefore i s p = anyBelow (rules block) (ruleForbids i s p)
+  forbiddenBefore i s p = anyBelow (rules block) (ruleForbidsBefore i s p)
 
   -- s is the one shape of row i
-  pub record Sole (i s : ℕ) : Type 0 where
+  pub record SoleShape (i s : ℕ) : Type 0 where
     pub from : 1 ≤ s
     pub upto : s ≤ 32
     pub only : hasOnly block t i s ≡ true
@@ -47,7 +47,7 @@ module _ (block t : List ℤ) where
   pub record Clear (i : ℕ) : Type 0 where
     pub shape : ℕ
     pub point : List ℤ
-    pub sole : Sole i shape
+    pub sole : SoleShape i shape
     pub at : (d : ℕ) → d < axes block → word point d ≡ low block t i d
     pub ranges : inRanges block t i point ≡ true
     pub rooms : roomsHold block i shape point ≡ true

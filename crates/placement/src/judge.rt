@@ -7,7 +7,7 @@ ghost use Rattle.sheet.specs.Placement.{rowFixed};
 ghost use Rattle.sheet.specs.Accepted.{Table};
 ghost use Rattle.words.specs.Places.{RowPlace, RulePlace};
 ghost use Rattle.placement.specs.Rows.{FixedSheet};
-ghost use Rattle.placement.specs.Before.{namedForbids, beforeForbids, ruleForbids, forbiddenBefore, Sole, Judging, Judged};
+ghost use Rattle.placement.specs.Before.{namedForbids, beforeForbids, ruleForbidsBefore, forbiddenBefore, SoleShape, Judging, Judged};
 use forbid::clash;
 use outline::OUTLINE;
 use points::COORDINATES;
@@ -16,7 +16,7 @@ use words::Place;
 // The one shape of a fixed row.
 fn shape_of(block: &[i64], table: &[i64], i: Place) -> usize
     requires { ⌜ Table (now block) (now table) × RowPlace (now block) (now table) i × (rowFixed (now block) (now table) (i .number) ≡ true) ⌝ }
-    ensures { λ s. ⌜ Sole (now (block .entry)) (now (table .entry)) (i .number) s ⌝ }
+    ensures { λ s. ⌜ SoleShape (now (block .entry)) (now (table .entry)) (i .number) s ⌝ }
 {
     let set = words::shapes_of(block, table, i);
     u32::trailing_zeros(set) as usize + 1
@@ -80,7 +80,7 @@ fn rule_forbids(
     p: [i64; COORDINATES],
 ) -> bool
     requires { ⌜ Judging (now block) (now table) (now outline) i s p × (r < rules (now block)) ⌝ }
-    ensures { λ x. ⌜ x ≡ ruleForbids (now (block .entry)) (now (table .entry)) (i .number) s p r ⌝ }
+    ensures { λ x. ⌜ x ≡ ruleForbidsBefore (now (block .entry)) (now (table .entry)) (i .number) s p r ⌝ }
 {
     let rule = words::rule_place(block, r);
     let row = i.number;

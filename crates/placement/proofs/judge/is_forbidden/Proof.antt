@@ -8,12 +8,12 @@ use Rattle.integers.specs.Below.{anyBelow}
 use Rattle.integers.proofs.Below.{any-zero, any-true}
 use Rattle.sheet.specs.Layout.{rules}
 use Rattle.forbid.proofs.Regions.{none-more}
-use Rattle.placement.specs.Before.{ruleForbids, forbiddenBefore}
+use Rattle.placement.specs.Before.{ruleForbidsBefore, forbiddenBefore}
 use Rattle.placement.proofs.judge.is_forbidden.Statement.{statement}
 use Rattle.placement.proofs.judge.is_forbidden.Tie as tie
 
 abbrev Inv-loop : tie.InvT-loop
-Inv-loop block table outline i s p n r₀ r = (r ≤ n) × (anyBelow r (ruleForbids block table (i .number) s p) ≡ false)
+Inv-loop block table outline i s p n r₀ r = (r ≤ n) × (anyBelow r (ruleForbidsBefore block table (i .number) s p) ≡ false)
 
 abbrev μ-loop : tie.MeasureT-loop
 μ-loop block table outline i s p n r₀ r = n - r
@@ -35,7 +35,7 @@ returns c =
     let x = c .before in
     let n = x .before .before .before in
     let a = n .before .args in
-    sym (any-true (ruleForbids (now (a .block)) (now (a .table)) (a .i .number) (a .s) (a .p)) _
+    sym (any-true (ruleForbidsBefore (now (a .block)) (now (a .table)) (a .i .number) (a .s) (a .p)) _
     (omega (arith, n .rules-of .ensures, x .before .loop-test .taken)) (sym (x .rule-forbids .ensures) ∙ c .if1 .taken))
 
 add-r : tie.Need-add-r Inv-loop μ-loop

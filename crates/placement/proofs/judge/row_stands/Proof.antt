@@ -9,7 +9,7 @@ use Rattle.sheet.specs.Allowed.{inRanges, roomsHold}
 use Rattle.sheet.proofs.Fixed.{Row}
 use Rattle.points.specs.Area.{inArea}
 use Rattle.points.proofs.Areas.{in-small}
-use Rattle.placement.specs.Before.{Sole}
+use Rattle.placement.specs.Before.{SoleShape}
 use Rattle.placement.proofs.Earlier.{held, row-fixed, bad-cut, bad-before}
 use Rattle.placement.proofs.judge.row_stands.Statement.{statement}
 use Rattle.placement.proofs.judge.row_stands.Tie as tie
@@ -25,7 +25,7 @@ module _ (c : tie.After-holds) where
   abbrev top : tie.Start
   top = c .before .before .before .before .before
 
-  sole : Sole (top .args .block .now) (top .args .table .now) (top .args .i .number) (found .before .shape-of .result)
+  sole : SoleShape (top .args .block .now) (top .args .table .now) (top .args .i .number) (found .before .shape-of .result)
   sole = found .before .shape-of .ensures
 
   in-cut : inArea (axes (top .args .block .now)) (c .before .cut-box .result) (found .origin .result) ≡ c .holds .result

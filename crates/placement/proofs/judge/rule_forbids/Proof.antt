@@ -2,7 +2,7 @@
 use mathlib.Core.Path.{sym, _∙_}
 use Rattle.integers.proofs.Booleans.{not-true, not-false}
 use Rattle.words.proofs.Ends.{row-bit}
-use Rattle.placement.specs.Before.{ruleForbids}
+use Rattle.placement.specs.Before.{ruleForbidsBefore}
 use Rattle.placement.proofs.judge.rule_forbids.Statement.{statement}
 use Rattle.placement.proofs.judge.rule_forbids.Tie as tie
 
@@ -15,7 +15,7 @@ is-non-overlap-of-requires c κs =
     (w .sheet .accepted, c .rule-place .ensures .0, row-bit (w .row))
 
 returns : tie.Need-returns
-unfolding ruleForbids
+unfolding ruleForbidsBefore
 returns c =
     let n = c .before in
     rw (← n .before .rule-place .ensures .1, sym (n .is-non-overlap-of .ensures) ∙ not-true (c .if1 .taken))
@@ -24,7 +24,7 @@ rows-forbid-requires : tie.Need-rows-forbid-requires
 rows-forbid-requires c κs = let r = c .before .before in (r .before .pre .0, r .rule-place .ensures .0)
 
 returns-2 : tie.Need-returns-2
-unfolding ruleForbids
+unfolding ruleForbidsBefore
 returns-2 c =
     let n = c .before .before in
     rw (← n .before .rule-place .ensures .1, sym (n .is-non-overlap-of .ensures) ∙ not-false (c .before .if1 .left)) (c .rows-forbid .ensures)

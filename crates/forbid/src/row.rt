@@ -17,7 +17,7 @@ use words::Place;
 
 // What row j forbids with shape t to shape s of another row: one pair of boxes is enough. A box of t that is clear of the hull of s is
 // clear of every box of s.
-pub(crate) fn shapes_region(
+fn shapes_region(
     block: &[i64],
     table: &[i64],
     outline: &[i64; OUTLINE],

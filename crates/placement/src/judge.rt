@@ -9,6 +9,7 @@ ghost use Rattle.words.specs.Places.{RowPlace, RulePlace};
 ghost use Rattle.placement.specs.Rows.{FixedSheet};
 ghost use Rattle.placement.specs.Before.{namedForbids, beforeForbids, ruleForbidsBefore, forbiddenBefore, SoleShape, Judging, Judged};
 use forbid::clash;
+use forbid::row;
 use outline::OUTLINE;
 use points::COORDINATES;
 use words::Place;
@@ -41,7 +42,11 @@ fn row_forbids(
         return false;
     }
     let t = shape_of(block, table, j);
-    clash::shapes_clash(block, table, outline, r, s, j, t, p)
+    if !clash::hulls_clash(block, table, outline, r, s, j, t, p) {
+        return false;
+    }
+    let x = row::set_region(block, table, outline, r, s, j, p);
+    x.hit
 }
 
 // Whether rule r forbids p to shape s of row i by a row before i.

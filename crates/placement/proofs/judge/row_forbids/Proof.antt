@@ -1,7 +1,11 @@
 -- `judge::row_forbids` meets its contract: a row that is named forbids what its one shape does. Assumes nothing.
-use mathlib.Core.Path.{sym, _∙_}
+use mathlib.Core.Path.{_≡_, sym, _∙_}
+use mathlib.Core.Bool.{true}
+use denote.Ref.{now}
 use Rattle.integers.proofs.Booleans.{not-true, not-false}
+use Rattle.sheet.specs.Layout.{namesRow}
 use Rattle.words.proofs.Ends.{row-bit}
+use Rattle.forbid.specs.Region.{Versus}
 use Rattle.placement.specs.Before.{namedForbids}
 use Rattle.placement.proofs.Earlier.{held, sole-set, row-fixed}
 use Rattle.placement.proofs.judge.row_forbids.Statement.{statement}
@@ -23,34 +27,55 @@ shape-of-requires c κs =
     let sheet = w .0 .sheet in
     (sheet .table, j, row-fixed _ _ (sheet .table) (sheet .all-fixed) (record { from = j .from; upto = j .upto }))
 
-shapes-clash-requires : tie.Need-shapes-clash-requires
-shapes-clash-requires c κs =
+-- what the code for the other row leans on
+versus : (x : tie.After-shape-of) → let a = x .before .before .before .args in
+    Versus (now (a .block)) (now (a .table)) (now (a .outline)) (a .r) (a .s) (a .j) (a .p)
+versus x =
+    let w = x .before .before .before .pre in
+    let sheet = w .0 .sheet in
+    record {
+      at-point = record {
+        accepted = sheet .accepted;
+        table = sheet .table;
+        outline = sheet .outline;
+        own = w .0 .shape;
+        near = w .0 .near;
+      };
+      rule = w .1;
+      row = w .2;
+    }
+
+hulls-clash-requires : tie.Need-hulls-clash-requires
+hulls-clash-requires c κs =
     let w = c .before .before .before .pre in
-    let x = w .0 in
-    let sheet = x .sheet in
-    let j = w .2 in (
-      record {
-        at-point = record {
-          accepted = sheet .accepted;
-          table = sheet .table;
-          outline = sheet .outline;
-          own = x .shape;
-          near = x .near;
-        };
-        rule = w .1;
-        row = j;
-      },
-      sheet .table .boxed _ _ (j .from) (j .upto) (held _ _ (c .shape-of .ensures)),
-    )
+    (versus c, w .0 .sheet .table .boxed _ _ (w .2 .from) (w .2 .upto) (held _ _ (c .shape-of .ensures)))
+
+-- the rule names the row
+named : (x : tie.After-shape-of) → let a = x .before .before .before .args in namesRow (now (a .block)) (a .r .number) (a .j .number) ≡ true
+named x = sym (x .before .before .names-row .ensures) ∙ not-false (x .before .if1 .left)
 
 returns-2 : tie.Need-returns-2
 unfolding namedForbids
 returns-2 c =
-    let n = c .before .before .before in
-    rw (sym (n .names-row .ensures) ∙ not-false (c .before .before .if1 .left))
-    (c .shapes-clash .ensures _ ∙ sole-set _ _ (c .before .shape-of .ensures) _ _ _ _)
+    let h = c .before in
+    let x = h .before in
+    rw (named x) (sym (sym (sole-set _ _ (x .shape-of .ensures) _ _ _ _) ∙ h .hulls-clash .ensures _ (not-true (c .if2 .taken))))
+
+set-region-requires : tie.Need-set-region-requires
+set-region-requires c κs = versus (c .before .before)
+
+returns-3 : tie.Need-returns-3
+unfolding namedForbids
+returns-3 c = rw (named (c .before .before .before)) (c .set-region .ensures _ .hit)
 
 pub row-forbids-spec : {M : Type 1} → statement M
 row-forbids-spec =
     tie.close
-    (tie.spec names-row-requires returns shape-of-requires shapes-clash-requires returns-2)
+    (tie.spec
+    names-row-requires
+    returns
+    shape-of-requires
+    hulls-clash-requires
+    returns-2
+    set-region-requires
+    returns-3)

@@ -1,12 +1,12 @@
--- `clash::shapes_clash` meets its contract: hulls that are clear of each other hold no boxes that clash. Assumes nothing.
+-- `clash::hulls_clash` meets its contract: hulls that are clear of each other hold no boxes that clash. Assumes nothing.
 use mathlib.Core.Path.{sym, ap₂, _∙_}
 use Prim.Native.Nat.{ℕ}
 use denote.Ref.{now}
-use Rattle.integers.proofs.Booleans.{clash, fails, not-true}
+use Rattle.integers.proofs.Booleans.{clash, fails}
 use Rattle.outline.proofs.Solids.{shape-few}
 use Rattle.forbid.proofs.Solids.{forbidsTo, hulls-forbid, hull-places}
-use Rattle.forbid.proofs.clash.shapes_clash.Statement.{statement}
-use Rattle.forbid.proofs.clash.shapes_clash.Tie as tie
+use Rattle.forbid.proofs.clash.hulls_clash.Statement.{statement}
+use Rattle.forbid.proofs.clash.hulls_clash.Tie as tie
 
 hull-of-requires : tie.Need-hull-of-requires
 hull-of-requires c κs = let w = c .pre .0 .at-point in shape-few (w .accepted) (w .own)
@@ -23,29 +23,14 @@ pair-forbids-requires c κs =
 
 returns : tie.Need-returns
 returns c =
-    let f = c .before in
-    let h = f .before in
+    let h = c .before in
     let s = h .before .before in
     let a = s .args in
     let w = s .pre .0 .at-point in
     let hulls = ap₂ (λ (x y : ℕ). forbidsTo (now (a .block)) (now (a .table)) (now (a .outline)) (a .r) (a .j) x y (a .p))
     (h .before .hull-of .ensures) (h .hull-of2 .ensures) in
-    λ i. sym (fails (λ e. clash (hulls-forbid _ _ _ (a .r) (a .j) (w .outline) i (w .own) (s .pre .1) _ e)
-    (sym hulls ∙ sym (f .pair-forbids .ensures) ∙ not-true (c .if1 .taken))))
+    λ i clear. fails (λ e. clash (hulls-forbid _ _ _ (a .r) (a .j) (w .outline) i (w .own) (s .pre .1) _ e)
+    (sym hulls ∙ sym (c .pair-forbids .ensures) ∙ clear))
 
-shapes-region-requires : tie.Need-shapes-region-requires
-shapes-region-requires c κs = c .before .before .before .before .pre
-
-returns-2 : tie.Need-returns-2
-returns-2 c = λ i. c .shapes-region .ensures i .hit
-
-pub shapes-clash-spec : {M : Type 1} → statement M
-shapes-clash-spec =
-    tie.close
-    (tie.spec
-    hull-of-requires
-    hull-of-requires-2
-    pair-forbids-requires
-    returns
-    shapes-region-requires
-    returns-2)
+pub hulls-clash-spec : {M : Type 1} → statement M
+hulls-clash-spec = tie.close (tie.spec hull-of-requires hull-of-requires-2 pair-forbids-requires returns)

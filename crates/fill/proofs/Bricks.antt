@@ -43,7 +43,7 @@ same-place a f s n {start} {len} e g =
     (both-ways (ltb n (f + s)) (ltZ (a +ℤ pos n) (start +ℤ len)) (λ h. let k = ltb-true n (f + s) h in omega (ints, x, y, z))
     (λ h. lt-ltb n (f + s) (omega (ints, x, y, z))))
 
-module _ {block t o : List ℤ} {r i b : Place} (w : NamedBox block t o r i b) where
+module _ {block t : List ℤ} {r i b : Place} (w : NamedBox block t r i b) where
   -- ---- one dimension
   module _ {d : ℕ} (l : d < dims block) where
     abbrev start : ℤ

@@ -38,7 +38,7 @@ module _ {n : ℕ} {old : List Bool} where
   }
 
 -- ---- the boxes of a row
-module _ {block t o : List ℤ} {r i : Place} (w : Named block t o r i) where
+module _ {block t : List ℤ} {r i : Place} (w : Named block t r i) where
   abbrev set : ℕ
   set = nat (shapeSet block t (i .number))
 

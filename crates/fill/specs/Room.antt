@@ -11,7 +11,6 @@ use Rattle.sheet.specs.Fill.{isFillRule, roomWidth, roomCells}
 use Rattle.sheet.specs.Accepted.{Block, Table}
 use Rattle.words.specs.declared.Place.{Place}
 use Rattle.words.specs.Places.{BoxPlace, RulePlace, RowPlace}
-use Rattle.outline.specs.Outline.{Outline}
 use Rattle.grid.specs.declared.Brick.{Brick}
 use Rattle.grid.specs.Grid.{cellsMost, at}
 
@@ -28,25 +27,24 @@ IsWidth block r d n = n ≡ roomWidth block r d
 abbrev pub IsWidths : List ℤ → ℕ → List ℕ → Type 0
 IsWidths block r widths = (d : ℕ) → d < dims block → IsWidth block r d (at widths d)
 
--- a good placement, whose outline is o, and rule r, whose room's cells are not too many
-pub record Counting (block t o : List ℤ) (r : Place) : Type 0 where
+-- a good placement, and rule r, whose room's cells are not too many
+pub record Counting (block t : List ℤ) (r : Place) : Type 0 where
   pub room : FillRoom block r
   pub table : Table block t
-  pub outline : Outline block o
   pub all-fixed : fixed block t ≡ true
   pub all-good : good block t ≡ true
   pub some-cells : 1 ≤ roomCells block (r .number)
   pub few-cells : roomCells block (r .number) ≤ cellsMost
 
 -- row i is one of the rule's
-pub record Named (block t o : List ℤ) (r i : Place) : Type 0 where
-  pub counting : Counting block t o r
+pub record Named (block t : List ℤ) (r i : Place) : Type 0 where
+  pub counting : Counting block t r
   pub row : RowPlace block t i
   pub named : namesRow block (r .number) (i .number) ≡ true
 
 -- and b one of its boxes
-pub record NamedBox (block t o : List ℤ) (r i b : Place) : Type 0 where
-  pub of : Named block t o r i
+pub record NamedBox (block t : List ℤ) (r i b : Place) : Type 0 where
+  pub of : Named block t r i
   pub box : BoxPlace block b
   pub is : ofRow block t (i .number) (b .number) ≡ true
 

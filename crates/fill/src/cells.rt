@@ -5,6 +5,7 @@ ghost use Prim.Native.Nat.{_<_};
 ghost use Rattle.sheet.specs.Layout.{dims};
 ghost use Rattle.sheet.specs.Fill.{roomCells, rowCovers, coversCell, coveredCells};
 ghost use Rattle.sheet.specs.Cells.{cellAt};
+ghost use Rattle.outline.specs.Outline.{Outline};
 ghost use Rattle.fill.specs.Room.{IsWidths, Counting, Named, NamedBox, IsPlace, IsBrick, Adds};
 use crate::room;
 use grid::Brick;
@@ -15,16 +16,8 @@ use sheet::DIMS;
 use words::Place;
 
 // Where box b of row i starts in dimension d, counted from the room's low corner.
-fn place_of(
-    block: &[i64],
-    table: &[i64],
-    outline: &[i64; OUTLINE],
-    r: Place,
-    i: Place,
-    b: Place,
-    d: usize,
-) -> usize
-    requires { ⌜ NamedBox (now block) (now table) (now outline) r i b × (d < dims (now block)) ⌝ }
+fn place_of(block: &[i64], table: &[i64], r: Place, i: Place, b: Place, d: usize) -> usize
+    requires { ⌜ NamedBox (now block) (now table) r i b × (d < dims (now block)) ⌝ }
     ensures { λ x. ⌜ IsPlace (now (block .entry)) (now (table .entry)) (r .number) (i .number) (b .number) d x ⌝ }
 {
     let start = words::low_of(block, table, i, d) + words::offset_of(block, b, d);
@@ -32,15 +25,8 @@ fn place_of(
 }
 
 // Box b of row i as a brick of the room's grid.
-fn brick_of(
-    block: &[i64],
-    table: &[i64],
-    outline: &[i64; OUTLINE],
-    r: Place,
-    i: Place,
-    b: Place,
-) -> Brick
-    requires { ⌜ NamedBox (now block) (now table) (now outline) r i b ⌝ }
+fn brick_of(block: &[i64], table: &[i64], r: Place, i: Place, b: Place) -> Brick
+    requires { ⌜ NamedBox (now block) (now table) r i b ⌝ }
     ensures { λ x. ⌜ IsBrick (now (block .entry)) (now (table .entry)) (r .number) (i .number) (b .number) x ⌝ }
 {
     let k = words::dims_of(block);
@@ -48,7 +34,7 @@ fn brick_of(
     let mut size = [0usize; DIMS];
     let mut d = 0;
     while d < k {
-        from[d] = place_of(block, table, outline, r, i, b, d);
+        from[d] = place_of(block, table, r, i, b, d);
         size[d] = words::size_of(block, b, d) as usize;
         d += 1;
     }
@@ -65,7 +51,7 @@ fn mark_row(
     widths: [usize; DIMS],
     marks: &mut [bool; CELLS],
 )
-    requires { ⌜ Named (now block) (now table) (now outline) r i × IsWidths (now block) (r .number) widths ⌝ }
+    requires { ⌜ Named (now block) (now table) r i × Outline (now block) (now outline) × IsWidths (now block) (r .number) widths ⌝ }
     ensures { λ _. ⌜ Adds (roomCells (now (block .entry)) (r .number))
         (λ m. rowCovers (now (block .entry)) (now (table .entry)) (i .number) (cellAt (now (block .entry)) (r .number) m))
         (now (marks .entry)) (now (marks .exit)) ⌝ }
@@ -76,7 +62,7 @@ fn mark_row(
     let s = u32::trailing_zeros(set) as usize + 1;
     let mut b = chain::first_of(block, outline, s);
     while b < n {
-        let brick = brick_of(block, table, outline, r, i, words::box_place(block, b));
+        let brick = brick_of(block, table, r, i, words::box_place(block, b));
         grid::mark_brick(marks, k, widths, brick);
         b = chain::after(block, outline, b, s);
     }
@@ -90,7 +76,7 @@ fn mark_rows(
     r: Place,
     marks: &mut [bool; CELLS],
 )
-    requires { ⌜ Counting (now block) (now table) (now outline) r ⌝ }
+    requires { ⌜ Counting (now block) (now table) r × Outline (now block) (now outline) ⌝ }
     ensures { λ _. ⌜ Adds (roomCells (now (block .entry)) (r .number))
         (λ m. coversCell (now (block .entry)) (now (table .entry)) (r .number) (cellAt (now (block .entry)) (r .number) m))
         (now (marks .entry)) (now (marks .exit)) ⌝ }
@@ -115,7 +101,7 @@ pub(crate) fn covered_cells(
     r: Place,
     n: usize,
 ) -> usize
-    requires { ⌜ Counting (now block) (now table) (now outline) r × (n ≡ roomCells (now block) (r .number)) ⌝ }
+    requires { ⌜ Counting (now block) (now table) r × Outline (now block) (now outline) × (n ≡ roomCells (now block) (r .number)) ⌝ }
     ensures { λ x. ⌜ x ≡ coveredCells (now (block .entry)) (now (table .entry)) (r .number) ⌝ }
 {
     let mut marks = [false; CELLS];

@@ -101,7 +101,8 @@ fills =
     ∷ case largest (words (1 ∷ 0 ∷ 0 ∷ 0 ∷ 0 ∷ 0 ∷ 0 ∷ 0 ∷ 0 ∷ [])) (pos 1) (turnedAway 14)
     -- 15: a named row outside the room; two rows of another rule that overlap
     ∷ case (roomFor 1 4 4) (placed 1 4 0) (pos 1) (turnedAway 15)
-    ∷ case (withRules 2 (2 ∷ 3 ∷ 1 ∷ 0 ∷ 4 ∷ 0 ∷ 4 ∷ 1 ∷ 3 ∷ 6 ∷ 0 ∷ 0 ∷ 0 ∷ 0 ∷ [])) (placed 1 0 0 ++ placed 1 9 9 ++ placed 1 9 9) (pos 1) (turnedAway 15)
+    ∷ case (withRules 2 (2 ∷ 3 ∷ 1 ∷ 0 ∷ 4 ∷ 0 ∷ 4 ∷ 1 ∷ 3 ∷ 6 ∷ 0 ∷ 0 ∷ 0 ∷ 0 ∷ [])) (placed 1 0 0 ++ placed 1 9 9 ++ placed 1 9 9) (pos 1)
+    (turnedAway 15)
     ∷ []
 
 -- THE CASES OF T-03: the checker computes that every one passes

@@ -139,5 +139,6 @@ module _ (block : List ℤ) where
 -- one name that opens every definition above: `unfolding refusing`
 unfoldable pub refusing : Unit {0}
 unfolding _when_ _else_ badHead badCounts badBlockLength badBox noBoxDim noFillRule badCells badTableLength badRule badRow noSuchRow
-    noSuchShape noSuchDim notFixed notGood refusal refusalRow refusalShape refusalDim refusalPlacement refusalRelation refusalFill sliceUnless rowSlice startUnless rowStart
+    noSuchShape noSuchDim notFixed notGood refusal refusalRow refusalShape refusalDim refusalPlacement refusalRelation refusalFill
+    sliceUnless rowSlice startUnless rowStart
 refusing = tt

@@ -169,12 +169,12 @@ covered-cells-requires c κs =
       record {
         room = room p;
         table = accepted-table _ _ (v .0);
-        outline = g .before .before .before .draw .ensures;
         all-fixed = v .1;
         all-good = all-good g;
         some-cells = rw (← n) (w .2);
         few-cells = rw (← n) (w .3);
       },
+      g .before .before .before .draw .ensures,
       n,
     )
 

@@ -19,13 +19,13 @@ use Rattle.fill.proofs.cells.brick_of.Statement.{statement}
 use Rattle.fill.proofs.cells.brick_of.Tie as tie
 
 abbrev Inv-loop : tie.InvT-loop
-Inv-loop block table outline r i b k from₀ size₀ d₀ from sizes d =
+Inv-loop block table r i b k from₀ size₀ d₀ from sizes d =
     (d ≤ k) × (length from ≡ 4) × (length sizes ≡ 4)
     × Holds (IsPlace block table (r .number) (i .number) (b .number)) from d
     × Holds (IsSize block (b .number)) sizes d
 
 abbrev μ-loop : tie.MeasureT-loop
-μ-loop block table outline r i b k from₀ size₀ d₀ from sizes d = k - d
+μ-loop block table r i b k from₀ size₀ d₀ from sizes d = k - d
 
 few : (c : tie.After-dims-of Inv-loop μ-loop) → c .dims-of .result ≤ 4
 few c = let k = c .before .pre .of .counting .room .accepted .head .few-dims in omega (arith, c .dims-of .ensures)

@@ -50,8 +50,8 @@ add-s c = omega (arith, trailing-le 32 (c .shapes-of .result))
 
 first-of-requires : tie.Need-first-of-requires Inv-loop μ-loop
 first-of-requires c κs =
-    let w = c .before .before .before .pre .0 in
-    (w .counting .outline .chained, rw (c .shapes-of .ensures) (omega (arith, shape-few w)))
+    let p = c .before .before .before .pre in
+    (p .1 .chained, rw (c .shapes-of .ensures) (omega (arith, shape-few (p .0))))
 
 loop-holds : tie.Need-loop-holds Inv-loop μ-loop
 loop-holds c =
@@ -78,7 +78,7 @@ box-place-requires : tie.Need-box-place-requires Inv-loop μ-loop
 box-place-requires c κs = (top c .pre .0 .counting .room .accepted .head, below c)
 
 named-box : (c : tie.After-box-place Inv-loop μ-loop) → let a = top (c .before) .args in
-    NamedBox (now (a .block)) (now (a .table)) (now (a .outline)) (a .r) (a .i) (c .box-place .result)
+    NamedBox (now (a .block)) (now (a .table)) (a .r) (a .i) (c .box-place .result)
 named-box c =
     let p = c .box-place .ensures in
     record { of = top (c .before) .pre .0; box = p .0; is = rw (p .1) (is-own (c .before)) }
@@ -90,15 +90,15 @@ mark-brick-requires : tie.Need-mark-brick-requires Inv-loop μ-loop
 mark-brick-requires c κs =
     let x = c .before in
     let l = x .before .before in
-    rw (l .before .before .before .before .before .dims-of .ensures) (brick-lies (named-box (x .before)) _ _ (top l .pre .1) (x .brick-of .ensures))
+    rw (l .before .before .before .before .before .dims-of .ensures) (brick-lies (named-box (x .before)) _ _ (top l .pre .2) (x .brick-of .ensures))
 
 after-requires : tie.Need-after-requires Inv-loop μ-loop
 after-requires c κs =
     let l = c .before .before .before .before in
-    let w = top l .pre .0 .counting in
+    let p = top l .pre in
     record {
-      head = w .room .accepted .head;
-      chained = w .outline .chained;
+      head = p .0 .counting .room .accepted .head;
+      chained = p .1 .chained;
       below = below l;
       is = own (l .before .before .before) (below l) ∙ is-own l;
     }
@@ -118,7 +118,7 @@ loop-again c =
       omega (arith, n),
       λ h. sym (own s (rw (← n) h)) ∙ f .2 (rw (← n) h),
       boxes-next _ _ _ _ (is-own l) (f .0) (λ b p q. sym (own s (omega (arith, few, q))) ∙ f .3 b p q) (l .before .loop .inv .2)
-          (brick-adds (named-box (x .before)) _ _ (top l .pre .1) (x .brick-of .ensures) (l .before .before .before .before .before .dims-of .ensures)
+          (brick-adds (named-box (x .before)) _ _ (top l .pre .2) (x .brick-of .ensures) (l .before .before .before .before .before .dims-of .ensures)
           (x .before .box-place .ensures .1) (k .mark-brick .ensures)),
     )
 

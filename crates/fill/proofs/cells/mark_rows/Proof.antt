@@ -21,10 +21,10 @@ abbrev μ-loop : tie.MeasureT-loop
 μ-loop block table outline r marks₀ widths n m₀ marks m = n - m
 
 widths-of-requires : tie.Need-widths-of-requires Inv-loop μ-loop
-widths-of-requires c κs = c .pre .room
+widths-of-requires c κs = c .pre .0 .room
 
 rows-of-requires : tie.Need-rows-of-requires Inv-loop μ-loop
-rows-of-requires c κs = c .before .pre .room .accepted .head
+rows-of-requires c κs = c .before .pre .0 .room .accepted .head
 
 loop-holds : tie.Need-loop-holds Inv-loop μ-loop
 loop-holds c = (omega arith, rows-first _ _ _)
@@ -35,14 +35,14 @@ row-in : (c : tie.In-loop Inv-loop μ-loop) → let s = c .before .before .befor
 row-in c = up-next (omega (arith, c .before .before .rows-of .ensures, c .loop-test .taken))
 
 few-rows : (c : tie.In-loop Inv-loop μ-loop) → c .before .loop .m + 1 ≤ 32
-few-rows c = omega (arith, row-in c .upto, c .before .before .before .before .pre .table .whole .few-rows)
+few-rows c = omega (arith, row-in c .upto, c .before .before .before .before .pre .0 .table .whole .few-rows)
 
 add-names-row : tie.Need-add-names-row Inv-loop μ-loop
 add-names-row c = omega (arith, few-rows c)
 
 names-row-requires : tie.Need-names-row-requires Inv-loop μ-loop
 names-row-requires c κs =
-    let w = c .before .before .before .before .pre .room in
+    let w = c .before .before .before .before .pre .0 .room in
     (w .rule, w .accepted .row-sets _ (w .rule .below), record { from = row-in c .from; upto = few-rows c })
 
 add-row-place : tie.Need-add-row-place Inv-loop μ-loop
@@ -51,15 +51,18 @@ add-row-place c = omega (arith, few-rows (c .before .before))
 row-place-requires : tie.Need-row-place-requires Inv-loop μ-loop
 row-place-requires c κs =
     let l = c .before .before in
-    let w = l .before .before .before .before .pre in
+    let w = l .before .before .before .before .pre .0 in
     (w .room .accepted .head, w .table .whole, row-in l)
 
 mark-row-requires : tie.Need-mark-row-requires Inv-loop μ-loop
 mark-row-requires c κs =
     let p = c .before .row-place .ensures in
     let t = c .before .before in
-    let v = t .before .before .before .before .before in
-    (record { counting = v .before .pre; row = p .0; named = rw (p .1) (sym (t .before .names-row .ensures) ∙ t .if1 .taken) }, v .widths-of .ensures)
+    let v = t .before .before .before .before .before in (
+      record { counting = v .before .pre .0; row = p .0; named = rw (p .1) (sym (t .before .names-row .ensures) ∙ t .if1 .taken) },
+      v .before .pre .1,
+      v .widths-of .ensures,
+    )
 
 add-m : tie.Need-add-m Inv-loop μ-loop
 add-m c = omega (arith, few-rows (c .before .before))

@@ -2,6 +2,7 @@ pub mod Edges
 pub mod Complete
 pub mod Taking
 pub mod Widens
+pub mod Corners
 pub mod OneEnd
 pub mod KeptTo
 pub mod Writes

@@ -1,6 +1,6 @@
 -- A point taken into a run of ends, one dimension after the other (`taken-none`, `taken-more`), and what becomes of the ends (`taken-kept`,
 -- `taken-edges`). Assumes nothing.
-use mathlib.Core.Path.{_≡_, sym, subst}
+use mathlib.Core.Path.{_≡_, sym, _∙_, subst}
 use mathlib.Core.Logic.{⊎-elim}
 use mathlib.Core.Bool.{Bool, true, false}
 use mathlib.Core.List.{List}
@@ -18,7 +18,7 @@ use Rattle.sheet.specs.Accepted.{Table}
 use Rattle.sheet.proofs.Forbidden.{allowed-parts, in-range}
 use Rattle.points.specs.Area.{coordinates}
 use Rattle.points.specs.Ends.{endAt, Taken}
-use Rattle.narrow.specs.Ends.{Edge, Edges, Ends, Kept}
+use Rattle.narrow.specs.Ends.{endNumber, Edge, EdgesTo, Edges, Ends, Kept}
 use Rattle.narrow.proofs.Edges.{edge-kept, end-taken}
 
 -- ---- the ends then
@@ -37,21 +37,21 @@ module _ (block : List ℤ) (t : List ℤ) (table : Table block t) (i : ℕ) (fr
     taken-kept n flip d h e =
         subst (λ (z : ℤ). Edge block t i flip n d z) (sym (x .moved flip d (omega arith))) (edge-kept block t i flip n d (endAt flip d old) p st e)
 
-    pub taken-edges : (n : ℕ) → Ends block t i n old → Edges block t i n (axes block) new
+    pub taken-edges : (n : ℕ) → Ends block t i n old → Edges block t i n new
     taken-edges n ends flip d h =
         subst (λ (z : ℤ). Edge block t i flip n d z) (sym (x .moved flip d (omega arith)))
         (end-taken block t i flip n d (endAt flip d old) p st (near-point (st .shape) d h p (st .stands)) (ends flip d h))
 
--- ---- one dimension more has taken in a shape, its low end first and then its high end
-pub edges-more : (block : List ℤ) (t : List ℤ) (i n m : ℕ) {old mid new : List ℤ} → m < axes block → Edges block t i n m old
-    → Kept block t i old mid → Edge block t i false n m (endAt false m mid) → Kept block t i mid new → Edge block t i true n m (endAt true m new)
-    → Edges block t i n (m + 1) new
-edges-more block t i n m {old} {mid} {new} h x first low second high flip d l =
-    ⊎-elim
-    (λ q. subst (λ (e : ℕ). Edge block t i flip n e (endAt flip e new)) (sym q) (here flip))
-    (λ ne. second n flip d (omega (arith, ne)) (first n flip d (omega (arith, ne)) (x flip d (omega (arith, ne)))))
-    (same-or d m)
+-- ---- one end more has taken in a shape
+pub edges-more : (block : List ℤ) (t : List ℤ) (i n e : ℕ) {old new : List ℤ} (flip : Bool) (d : ℕ) → d < axes block
+    → endNumber flip (axes block) d ≡ e → EdgesTo block t i n e old → Kept block t i old new → Edge block t i flip n d (endAt flip d new)
+    → EdgesTo block t i n (e + 1) new
+edges-more block t i n e {old} {new} flip d h q x kept edge f m g l =
+    ⊎-elim (λ r. at-hand f flip (r ∙ sym q) edge) (λ ne. kept n f m g (x f m g (omega (arith, ne)))) (same-or (endNumber f (axes block) m) e)
   where
-    here : (flip : Bool) → Edge block t i flip n m (endAt flip m new)
-    here true = high
-    here false = second n false m h low
+    at-hand : (f flip : Bool) → endNumber f (axes block) m ≡ endNumber flip (axes block) d → Edge block t i flip n d (endAt flip d new)
+        → Edge block t i f n m (endAt f m new)
+    at-hand true true r = subst (λ (o : ℕ). Edge block t i true n o (endAt true o new)) (omega (arith, r))
+    at-hand false false r = subst (λ (o : ℕ). Edge block t i false n o (endAt false o new)) (sym r)
+    at-hand true false r = absurd (omega (arith, r))
+    at-hand false true r = absurd (omega (arith, r))

@@ -1,8 +1,8 @@
 -- The search of what lies ahead of an end. No point of the next shape is ahead of the end where the cut box has nothing there
 -- (`behind-all`), where nothing is found (`behind-none`), and once what is found is taken in (`behind-first`). Assumes nothing.
-use mathlib.Core.Path.{_≡_, sym, _∙_}
+use mathlib.Core.Path.{_≡_, sym, ap, _∙_}
 use mathlib.Core.Logic.{⊎-elim}
-use mathlib.Core.Bool.{Bool, true, false}
+use mathlib.Core.Bool.{Bool, true, false, not}
 use mathlib.Core.List.{List}
 use Prim.Native.Nat.{ℕ, _<_}
 use lib.IntN.{ℤ, pos}
@@ -13,7 +13,7 @@ use Rattle.integers.proofs.Booleans.{clash, decide, fails, and-true, true-and}
 use Rattle.integers.proofs.Ints.{ints, v, _⊕_, _⊖_, lin, true-within}
 use Rattle.integers.proofs.Machine.{from-within}
 use Rattle.sheet.specs.Layout.{axes}
-use Rattle.sheet.specs.Allowed.{inRanges, allowed}
+use Rattle.sheet.specs.Allowed.{inRanges, forbidden, allowed}
 use Rattle.points.specs.declared.Area.{Area}
 use Rattle.points.specs.Area.{inArea, Small, Cuts}
 use Rattle.region.specs.Rooms.{CutBox}
@@ -24,6 +24,10 @@ use Rattle.points.specs.Ends.{farther}
 use Rattle.narrow.specs.Ends.{past-from, past-to, none-past}
 use Rattle.narrow.proofs.Edges.{ahead-trans, not-past, farther-ahead}
 
+-- where it has a point, an area holds its high point
+pub high-in : (k : ℕ) (cut : Area) → inArea k cut (cut .low) ≡ true → inArea k cut (cut .high) ≡ true
+high-in k cut holds = area-by k cut (cut .high) (λ m l. (low-high k cut holds m l, ≤ℤ-refl _))
+
 -- the part of an area that lies strictly ahead of z holds a point, its outmost, if there is any
 module _ (k : ℕ) (cut area : Area) (small : Small cut) (holds : inArea k cut (cut .low) ≡ true) (d : ℕ) (h : d < k) where
   pub some-past : (flip : Bool) (z : ℤ) → Cuts k cut area (λ p. within (past-from flip z) (past-to flip z) (word p d))
@@ -31,7 +35,7 @@ module _ (k : ℕ) (cut area : Area) (small : Small cut) (holds : inArea k cut (
   some-past true z cuts e =
       let n = from-within (small .highs d) in
       low-in k area (cut .high) (cuts .is (cut .high) ∙ true-and
-      (area-by k cut (cut .high) (λ m l. (low-high k cut holds m l, ≤ℤ-refl _)))
+      (high-in k cut holds)
       (true-within (omega (ints, lin (v z ⊕ v (pos 1)))) (n .1)))
   some-past false z cuts e =
       let n = from-within (small .lows d) in
@@ -45,6 +49,11 @@ module _ (block : List ℤ) (t : List ℤ) (i s : ℕ) (cut : Area) (box : CutBo
   allowed-in : (p : List ℤ) → Allowed p → inArea (axes block) cut p ≡ true
   unfolding freeIn
   allowed-in p a = and-true {a = inArea (axes block) cut p} (cut-free block t i s cut box p ∙ a) .0
+
+  -- where no rule forbids it, a point of the cut box is allowed
+  pub allowed-there : (p : List ℤ) → inArea (axes block) cut p ≡ true → forbidden block t i s p ≡ false → Allowed p
+  unfolding freeIn
+  allowed-there p h f = sym (cut-free block t i s cut box p) ∙ true-and h (ap not f)
 
   pub none-allowed : inArea (axes block) cut (cut .low) ≡ false → (p : List ℤ) → Allowed p → ⊥
   none-allowed e p a = clash (allowed-in p a) (none-in (axes block) cut e p)

@@ -43,6 +43,11 @@ abbrev pub none-past : Bool → Area → ℕ → ℤ → Bool
 none-past true a d z = leZ (word (a .high) d) z
 none-past false a d z = leZ z (word (a .low) d)
 
+-- the ends are numbered: the low ones of the k dimensions, and then the high ones
+abbrev pub endNumber : Bool → ℕ → ℕ → ℕ
+endNumber true k d = k + d
+endNumber false k d = d
+
 module _ (block : List ℤ) (t : List ℤ) (i : ℕ) where
   -- row i with one of the shapes 1 to n of its set is allowed at p
   pub record StandsTo (n : ℕ) (p : List ℤ) : Type 0 where
@@ -60,9 +65,12 @@ module _ (block : List ℤ) (t : List ℤ) (i : ℕ) where
   abbrev pub End : Bool → ℕ → ℕ → ℤ → Type 0
   End flip n d z = Edge flip n d z ⊎ ((z ≡ nowhere flip) × ((p : List ℤ) → StandsTo n p → ⊥))
 
-  -- the ends in the dimensions below m are such edges
-  abbrev pub Edges : ℕ → ℕ → List ℤ → Type 0
-  Edges n m ends = (flip : Bool) (d : ℕ) → d < m → Edge flip n d (endAt flip d ends)
+  -- the ends are such edges: those of which the number is below e, and all
+  abbrev pub EdgesTo : ℕ → ℕ → List ℤ → Type 0
+  EdgesTo n e ends = (flip : Bool) (d : ℕ) → d < axes block → endNumber flip (axes block) d < e → Edge flip n d (endAt flip d ends)
+
+  abbrev pub Edges : ℕ → List ℤ → Type 0
+  Edges n ends = (flip : Bool) (d : ℕ) → d < axes block → Edge flip n d (endAt flip d ends)
 
   -- the ends of the row's first n shapes, in every dimension
   abbrev pub Ends : ℕ → List ℤ → Type 0

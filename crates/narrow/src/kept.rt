@@ -15,7 +15,7 @@ use outline::OUTLINE;
 use points::ends;
 use words::Place;
 
-// Takes the ends on to shape s + 1 of the row. Whether it has a point.
+// Takes the ends on to shape s + 1 of the row. Whether it has a point. Where nothing can forbid it one, the corners of the cut box have every end.
 fn with_shape(
     block: &[i64],
     table: &[i64],
@@ -38,6 +38,12 @@ fn with_shape(
         return false;
     }
     let nearby = gather::gather(block, table, outline, suspects, known, i, s + 1);
+    if nearby::lists_nothing(known, nearby) {
+        let top = cut.high;
+        ends::take_in(ends, bottom);
+        ends::take_in(ends, top);
+        return true;
+    }
     let x = bounds::search(
         block,
         table,

@@ -1,3 +1,4 @@
+pub mod Nothing
 pub mod Remembered
 pub mod Covers
 pub mod Threats

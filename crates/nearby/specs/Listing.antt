@@ -1,9 +1,10 @@
 -- The list of what can forbid a row with a shape the points of its ranges. Two statements carry it: every point of a known area is forbidden;
 -- and a point that is forbidden lies in a known area, or in the area of a suspect that forbids it. Assumes nothing.
 use mathlib.Core.Path.{_≡_}
-use mathlib.Core.Bool.{true, false}
+use mathlib.Core.Bool.{Bool, true, false, _&&_}
 use mathlib.Core.List.{List}
-use Prim.Native.Nat.{ℕ, _+_, _≤_, _<_}
+use Prim.Native.Nat.{ℕ, _≤_, _<_}
+use lib.Dec.{eqb}
 use lib.IntN.{ℤ}
 use lib.ListN.{length}
 use Rattle.integers.specs.Words.{word}
@@ -57,6 +58,10 @@ module _ (block t : List ℤ) (x : Nearby) (list : List ℤ) where
     pub areas : Known block t (x .i .number) (x .s) known
     pub suspects : Suspects block t (x .i .number) (x .s) list (x .count)
     pub meets : x .whole ≡ true → (p : List ℤ) → inRanges block t (x .i .number) p ≡ true → knownHolds block known p ≡ false → Meets p
+
+-- the list is whole, and neither a suspect nor a known area stands in it
+unfoldable pub listsNothing : Nearby → List ℤ → Bool
+listsNothing x known = x .whole && eqb (x .count) 0 && eqb (knownCount known) 0
 
 -- a point of the row's ranges at which the list is asked
 pub record Sought (block t o : List ℤ) (x : Nearby) (list known p : List ℤ) : Type 0 where

@@ -1,6 +1,7 @@
 // Known areas: every point of them is forbidden to the row and shape at hand.
 ghost use Prim.Native.Nat.{_<_, _≤_};
 ghost use mathlib.Core.Path.{_≡_};
+ghost use lib.Dec.{eqb};
 ghost use lib.IntN.{pos};
 ghost use lib.ListN.{length, set};
 ghost use Rattle.sheet.specs.Accepted.{Head};
@@ -34,6 +35,14 @@ pub(crate) fn forget(known: &mut [i64; KNOWN])
     ensures { λ _. ⌜ Counted (now (known .exit)) × (knownCount (now (known .exit)) ≡ 0) ⌝ }
 {
     put_count(known, 0);
+}
+
+// Whether no area is known.
+pub(crate) fn is_none(known: &[i64; KNOWN]) -> bool
+    requires { ⌜ Counted (now known) ⌝ }
+    ensures { λ r. ⌜ r ≡ eqb (knownCount (now (known .entry))) 0 ⌝ }
+{
+    words::count_at(known, COUNT) == 0
 }
 
 // A known area that holds p, if there is one: the last one met is the likeliest.

@@ -5,10 +5,12 @@ pub mod gather;
 pub mod known;
 pub mod suspect;
 
+ghost use mathlib.Core.Path.{_≡_};
 ghost use Rattle.sheet.specs.Layout.{axes};
 ghost use Rattle.sheet.specs.Allowed.{forbidden};
 ghost use Rattle.forbid.specs.Region.{IsRegion};
-ghost use Rattle.nearby.specs.Listing.{Listed, Sought};
+ghost use Rattle.nearby.specs.Known.{Counted};
+ghost use Rattle.nearby.specs.Listing.{Listed, listsNothing, Sought};
 use crate::known::KNOWN;
 use forbid::Region;
 use outline::OUTLINE;
@@ -22,6 +24,16 @@ pub struct Nearby {
     pub s: usize,
     pub count: usize,
     pub whole: bool,
+}
+
+// Whether the list has nothing: then no point of the row's ranges is forbidden.
+pub fn lists_nothing(known: &[i64; KNOWN], nearby: Nearby) -> bool
+    requires { ⌜ Counted (now known) ⌝ }
+    ensures { λ r. ⌜ r ≡ listsNothing nearby (now (known .entry)) ⌝ }
+{
+    let whole = nearby.whole;
+    let count = nearby.count;
+    whole & (count == 0) & known::is_none(known)
 }
 
 // Whether p, a point of the row's ranges, is forbidden, and where it is, an area around p in which every point is: a known one, or the one

@@ -79,11 +79,11 @@ module _ (l : List ℤ) where
   unfolding areaOf
   high-long = length-listBelow coordinates (λ d. word l (coordinates + d))
 
-  low-of : {d : ℕ} → d < coordinates → word (areaOf l .low) d ≡ word l d
+  pub low-of : {d : ℕ} → d < coordinates → word (areaOf l .low) d ≡ word l d
   unfolding areaOf
   low-of h = getD-listBelow (word l) (pos 0) h
 
-  high-of : {d : ℕ} → d < coordinates → word (areaOf l .high) d ≡ word l (coordinates + d)
+  pub high-of : {d : ℕ} → d < coordinates → word (areaOf l .high) d ≡ word l (coordinates + d)
   unfolding areaOf
   high-of h = getD-listBelow (λ d. word l (coordinates + d)) (pos 0) h
 

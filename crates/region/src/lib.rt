@@ -16,7 +16,8 @@ use points::ends;
 use points::ends::AREA_WORDS;
 use words::Place;
 
-// Row i's ranges as a run of words: the low point, then the high point.
+// Row i's ranges as a run of words: the low point, then the high point. The loop's bound is a constant: unrolled, it keeps the ends in
+// registers.
 fn range_ends(block: &[i64], table: &[i64], i: Place) -> [i64; AREA_WORDS]
     requires { ⌜ Block (now block) × Table (now block) (now table) × RowPlace (now block) (now table) i ⌝ }
     ensures { λ x. ⌜ Cuts (axes (now (block .entry))) fieldArea (areaOf x)
@@ -25,7 +26,10 @@ fn range_ends(block: &[i64], table: &[i64], i: Place) -> [i64; AREA_WORDS]
     let k = words::axes_of(block);
     let mut ends = ends::ends_at(-REACH, REACH);
     let mut d = 0;
-    while d < k {
+    while d < COORDINATES {
+        if d == k {
+            return ends;
+        }
         ends[d] = words::low_of(block, table, i, d);
         ends[COORDINATES + d] = words::high_of(block, table, i, d);
         d += 1;

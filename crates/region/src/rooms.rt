@@ -13,6 +13,7 @@ ghost use Rattle.points.specs.Area.{areaWords, Cuts, areaOf};
 ghost use Rattle.region.specs.Rooms.{sideContained, shapeContained, roomHolds, Cutting, CuttingRow};
 use outline::OUTLINE;
 use outline::solid;
+use points::COORDINATES;
 use points::ends;
 use words::Place;
 
@@ -35,7 +36,7 @@ fn cut_by_side(
     ends::cut(ends, d, low, high);
 }
 
-// Cuts the area to the points at which every box of shape s lies in rule r's room.
+// Cuts the area to the points at which every box of shape s lies in rule r's room. The loop's bound is a constant, so that it is unrolled.
 fn cut_by_shape(ends: &mut [i64], block: &[i64], outline: &[i64; OUTLINE], r: Place, s: usize)
     requires { ⌜ Cutting (now block) (now outline) r s × (length (now ends) ≡ areaWords) ⌝ }
     ensures { λ _. ⌜ Cuts (axes (now (block .entry))) (areaOf (now (ends .entry))) (areaOf (now (ends .exit)))
@@ -43,7 +44,10 @@ fn cut_by_shape(ends: &mut [i64], block: &[i64], outline: &[i64; OUTLINE], r: Pl
 {
     let k = words::dims_of(block);
     let mut d = 0;
-    while d < k {
+    while d < COORDINATES {
+        if d == k {
+            return;
+        }
         if words::names_dim(block, r, d) {
             cut_by_side(ends, block, outline, r, s, d);
         }

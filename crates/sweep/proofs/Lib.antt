@@ -1,6 +1,7 @@
 pub mod Points
 pub mod Mirror
 pub mod Rotations
+pub mod Table
 pub mod Adjust
 pub mod Cover
 pub mod After

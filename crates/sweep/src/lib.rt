@@ -55,13 +55,23 @@ pub fn turned_end(
     if flip { mirrored(low) } else { high }
 }
 
+// At k − 1, d and j the dimension at position j of the sweep of dimension d, of k dimensions: j + d, or k less where that is not below k, which
+// for d and j below k is (j + d) mod k. The entries are bytes, and no number stands many times in a row, since the table is written anew at
+// each call: so it takes four stores.
+const ROTATIONS: [[[u8; COORDINATES]; COORDINATES]; COORDINATES] = [
+    [[0, 0, 1, 2], [0, 1, 2, 3], [1, 2, 3, 4], [2, 3, 4, 5]],
+    [[0, 1, 0, 1], [1, 0, 1, 2], [0, 1, 2, 3], [1, 2, 3, 4]],
+    [[0, 1, 2, 0], [1, 2, 0, 1], [2, 0, 1, 2], [0, 1, 2, 3]],
+    [[0, 1, 2, 3], [1, 2, 3, 0], [2, 3, 0, 1], [3, 0, 1, 2]],
+];
+
 // The dimension at position j of the sweep of dimension d, of k dimensions.
 pub fn rotated(k: usize, d: usize, j: usize) -> usize
     ensures { λ r. ⌜ r ≡ rotation k d j ⌝ }
 {
+    let table = ROTATIONS;
     if k <= COORDINATES && d < k && j < k {
-        let sum = j + d;
-        if sum < k { sum } else { sum - k }
+        table[k - 1][d][j] as usize
     } else {
         0
     }

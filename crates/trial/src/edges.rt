@@ -100,5 +100,5 @@ pub(crate) fn position(t: Tally, block: &[i64], table: &[i64], m: usize) -> Tall
     let u = Tally::new().compared(refused);
     let v = compare::ends(u, block, table, 1, 1, 0, expected, row);
     let w = compare::kernel(v, block, table, table, true, 0, expected);
-    t.with_position(w.differ == 0)
+    t.with_case(w.differ == 0)
 }

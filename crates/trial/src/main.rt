@@ -1,5 +1,6 @@
-// Holds the kernel against brute force: document 01's positions that are not marked, then some thousands of small sheets by chance, some
-// dozens of larger ones and some thousands of rooms. It prints how many were run, how many answers were compared, and how many differ.
+// Holds the kernel against brute force: the rotations, document 01's positions that are not marked, then some thousands of small sheets by
+// chance, some dozens of larger ones and some thousands of rooms. It prints how many were run, how many answers were compared, and how many
+// differ.
 mod brute; // brute.rt: what is allowed, by definition; every point tried
 mod catalogue; // catalogue.rt: good placements
 mod compare; // compare.rt: kernel and brute force
@@ -12,6 +13,7 @@ mod numbers; // numbers.rt: sums and places
 mod plan; // plan.rt: what the sheets are made of
 mod refusals; // refusals.rt: the grounds
 mod relations; // relations.rt: how two rows stand to each other
+mod rotations; // rotations.rt: the order of a sweep's dimensions
 mod tally; // tally.rt: what is counted
 
 use generate::BLOCK;
@@ -59,6 +61,12 @@ fn print(text: &[u8], n: u64) {
     io::print_decimal(STDOUT_FILENO, n);
 }
 
+fn print_run(text: &[u8], t: Tally) {
+    print(text, t.run);
+    print(b" run, ", t.differ);
+    io::write_all(STDOUT_FILENO, b" differ\n");
+}
+
 fn print_sheets(text: &[u8], t: Tally) {
     print(text, t.run);
     print(b" (refused ", t.refused);
@@ -86,11 +94,10 @@ fn print_compared(text: &[u8], t: Tally) {
 }
 
 fn main() {
-    let e = sheets(plan::POSITION, edges::POSITIONS, 1);
-    print(b"positions: ", e.run);
-    print(b" run, ", e.differ);
+    print_run(b"rotations: ", rotations::all());
+    print_run(b"positions: ", sheets(plan::POSITION, edges::POSITIONS, 1));
     let t = sheets(plan::SMALL, SHEETS, 88172645463325252);
-    print_sheets(b" differ\nsheets: ", t);
+    print_sheets(b"sheets: ", t);
     print_placements(b"placements: good ", t);
     print(b"\nrelations: found ", t.related);
     print(b", kinds ", tally::kinds_of(t));

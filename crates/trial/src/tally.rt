@@ -3,7 +3,7 @@ use super::numbers;
 use std::num::wrapping_add_u64;
 
 pub struct Tally {
-    pub run: u64, // sheets, or positions
+    pub run: u64, // sheets, positions, or rotations
     pub refused: u64, // sheets
     pub large: u64, // sheets with too many points, of which only the refusal is compared
     pub settled: u64, // sheets
@@ -50,7 +50,8 @@ impl Tally {
         self
     }
 
-    pub(crate) fn with_position(mut self, agrees: bool) -> Self {
+    // A position or a rotation.
+    pub(crate) fn with_case(mut self, agrees: bool) -> Self {
         self.run = and(self.run, true);
         self.differ = and(self.differ, !agrees);
         self

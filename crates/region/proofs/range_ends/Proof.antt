@@ -45,16 +45,26 @@ ends-at-requires c κs = tt
 loop-holds : tie.Need-loop-holds Inv-loop μ-loop
 loop-holds c = (omega arith, search needs, fills-ends-at _ (c .ends-at .ensures))
 
+-- all axes are passed
+returns : tie.Need-returns Inv-loop μ-loop
+unfolding inRanges
+returns c =
+    let l = c .before .before in
+    rw (c .if1 .taken ∙ l .before .before .axes-of .ensures) at (l .loop .inv .2 .cuts)
+
 -- the dimension at hand is an axis, and the row's range there
-module _ (c : tie.In-loop Inv-loop μ-loop) where
+module _ (c : tie.Else1 Inv-loop μ-loop) where
+  abbrev l : tie.At-loop Inv-loop μ-loop
+  l = c .before .before
+
   abbrev top : tie.Start Inv-loop μ-loop
-  top = c .before .before .before .before
+  top = l .before .before .before
 
-  is-axis : c .before .loop .d < axes (now (c .before .before .before .before .args .block))
-  is-axis = omega (arith, c .before .before .before .axes-of .ensures, c .loop-test .taken)
+  is-axis : l .loop .d < axes (now (top .args .block))
+  is-axis = omega (arith, l .before .before .axes-of .ensures, l .loop .inv .0, c .if1 .left)
 
-  few : c .before .loop .d < coordinates
-  few = omega (arith, is-axis, top .pre .0 .head .few-axes)
+  few : l .loop .d < coordinates
+  few = c .before .loop-test .taken
 
 low-of-requires : tie.Need-low-of-requires Inv-loop μ-loop
 low-of-requires c κs = let s = top c in (s .pre .2, is-axis c)
@@ -63,7 +73,7 @@ mul-ends : tie.Need-mul-ends Inv-loop μ-loop
 mul-ends c = omega (arith, few (c .before))
 
 array-set-from-ends : tie.Need-array-set-from-ends Inv-loop μ-loop
-array-set-from-ends c = omega (arith, few (c .before), c .before .before .loop .inv .1)
+array-set-from-ends c = let e = c .before in omega (arith, few e, l e .loop .inv .1)
 
 high-of-requires : tie.Need-high-of-requires Inv-loop μ-loop
 high-of-requires c κs = let s = top (c .before) in (s .pre .2, is-axis (c .before))
@@ -76,38 +86,39 @@ mul-ends-2 c = omega (arith, few (c .before .before))
 
 array-set-from-ends-2 : tie.Need-array-set-from-ends-2 Inv-loop μ-loop
 array-set-from-ends-2 c =
-    let l = c .before .before in
-    omega (arith, few l, length-set (l .before .loop .ends) (l .before .loop .d) (toZ w64 (ofZ w64 (c .before .low-of .result))))
+    let e = c .before .before in
+    omega (arith, few e, length-set (l e .loop .ends) (l e .loop .d) (toZ w64 (ofZ w64 (c .before .low-of .result))))
 
 add-d : tie.Need-add-d Inv-loop μ-loop
 add-d c = omega (arith, few (c .before .before))
 
 loop-less : tie.Need-loop-less Inv-loop μ-loop
-loop-less c = omega (arith, c .before .before .loop-test .taken)
+loop-less c = omega (arith, l (c .before .before) .loop .inv .0, c .before .before .if1 .left)
 
 loop-again : tie.Need-loop-again Inv-loop μ-loop
 loop-again c =
     let m = c .before in
-    let l = m .before in
-    let i = l .before .loop .inv in
-    let s = top l in
+    let e = m .before in
+    let i = l e .loop .inv in
+    let s = top e in
     let j = s .pre .2 in
     let lo = bits-back (m .low-of .ok) ∙ m .low-of .ensures in
     let hi = bits-back (c .high-of .ok) ∙ c .high-of .ensures in (
-      omega (arith, l .loop-test .taken),
+      omega (arith, i .0, e .if1 .left),
       simp length-set (i .1),
-      fills-ends (l .before .loop .ends) _ (i .2) (i .1) (few l) (is-axis l)
-          (within-by lo (within-weaken (omega arith) (s .pre .1 .lows _ _ (j .from) (j .upto) (is-axis l))))
-          (within-by hi (within-weaken (omega arith) (s .pre .1 .highs _ _ (j .from) (j .upto) (is-axis l))))
-          (λ p. ap₂ (λ (x y : ℤ). within x y (word p (l .before .loop .d))) lo hi),
+      fills-ends (l e .loop .ends) _ (i .2) (i .1) (few e) (is-axis e)
+          (within-by lo (within-weaken (omega arith) (s .pre .1 .lows _ _ (j .from) (j .upto) (is-axis e))))
+          (within-by hi (within-weaken (omega arith) (s .pre .1 .highs _ _ (j .from) (j .upto) (is-axis e))))
+          (λ p. ap₂ (λ (x y : ℤ). within x y (word p (l e .loop .d))) lo hi),
     )
 
-returns : tie.Need-returns Inv-loop μ-loop
+returns-2 : tie.Need-returns-2 Inv-loop μ-loop
 unfolding inRanges
-returns c =
+returns-2 c =
     let l = c .before in
-    let q : l .loop .d ≡ axes (now (l .before .before .before .args .block)) =
-    omega (arith, l .before .before .axes-of .ensures, l .loop .inv .0, c .loop-test .left) in
+    let n = l .before .before in
+    let q : l .loop .d ≡ axes (now (n .before .args .block)) =
+    omega (arith, n .axes-of .ensures, l .loop .inv .0, n .before .pre .0 .head .few-axes, c .loop-test .left) in
     rw q at (l .loop .inv .2 .cuts)
 
 pub range-ends-spec : {M : Type 1} → statement M
@@ -120,6 +131,7 @@ range-ends-spec =
     sub-ends-at
     ends-at-requires
     loop-holds
+    returns
     low-of-requires
     mul-ends
     array-set-from-ends
@@ -130,4 +142,4 @@ range-ends-spec =
     add-d
     loop-less
     loop-again
-    returns)
+    returns-2)

@@ -7,7 +7,8 @@ use mir.Val.{toZ, ofZ}
 use Rattle.integers.specs.Integer.{within, Within}
 use Rattle.integers.specs.Words.{word}
 use Rattle.sheet.specs.Layout.{axes}
-use Rattle.points.specs.Area.{Cuts}
+use Rattle.points.specs.declared.Area.{Area}
+use Rattle.points.specs.Area.{Cuts, areaOf}
 use Rattle.points.specs.Ends.{endAt}
 use Rattle.points.proofs.Sums.{bits-back}
 use Rattle.narrow.specs.Ends.{beyond, past-from, past-to, none-past}
@@ -21,8 +22,11 @@ module _ (s : tie.Start) where
   abbrev z : ℤ
   z = endAt (s .args .flip) (s .args .d) (now (s .args .ends))
 
+  abbrev cut : Area
+  cut = areaOf (now (s .args .cut))
+
   abbrev begun : Begun (now (s .args .block)) (now (s .args .table)) (now (s .args .outline)) (now (s .args .suspects)) (now (s .args .known))
-      (s .args .nearby) (s .args .cut) (now (s .args .ends)) (s .args .d) (s .args .flip)
+      (s .args .nearby) cut (now (s .args .ends)) (s .args .d) (s .args .flip)
   begun = record { given = s .pre .0; below = s .pre .1; edge = s .pre .2 }
 
 -- the end as the code holds it
@@ -31,24 +35,29 @@ end-is c = bits-back (c .end-of .ok) ∙ c .end-of .ensures
 
 -- the test whether the cut box has nothing ahead of the end
 tested : (c : tie.After-none-past) → let s = c .before .before .before in
-    c .none-past .result ≡ none-past (s .args .flip) (s .args .cut) (s .args .d) (z s)
+    c .none-past .result ≡ none-past (s .args .flip) (cut s) (s .args .d) (z s)
 tested c =
     let s = c .before .before .before in
-    subst (λ (y : ℤ). c .none-past .result ≡ none-past (s .args .flip) (s .args .cut) (s .args .d) y) (end-is (c .before)) (c .none-past .ensures)
+    subst (λ (y : ℤ). c .none-past .result ≡ none-past (s .args .flip) (cut s) (s .args .d) y) (end-is (c .before)) (c .none-past .ensures)
 
 -- the part of the cut box ahead of the end
 module _ (c : tie.After-ahead-of) where
-  abbrev start : tie.Start
-  start = c .before .before .before .before .before
+  abbrev test : tie.After-none-past
+  test = c .before .before .before .before
 
-  cuts : let s = start in Cuts (axes (now (s .args .block))) (s .args .cut) (c .ahead-of .result)
+  abbrev start : tie.Start
+  start = test .before .before .before
+
+  cuts : let s = start in Cuts (axes (now (s .args .block))) (cut s) (c .ahead-of .result)
       (λ p. within (past-from (s .args .flip) (z s)) (past-to (s .args .flip) (z s)) (word p (s .args .d)))
   cuts =
       let s = start in
       let k = axes (now (s .args .block)) in
-      subst (λ (y : ℤ). Cuts k (s .args .cut) (c .ahead-of .result)
+      subst (λ (a : Area). Cuts k a (c .ahead-of .result)
+      (λ p. within (past-from (s .args .flip) (z s)) (past-to (s .args .flip) (z s)) (word p (s .args .d)))) (c .before .area-at .ensures)
+      (subst (λ (y : ℤ). Cuts k (c .before .area-at .result) (c .ahead-of .result)
       (λ p. within (past-from (s .args .flip) y) (past-to (s .args .flip) y) (word p (s .args .d))))
-      (end-is (c .before .before .before)) (c .ahead-of .ensures k (s .pre .1))
+      (end-is (test .before)) (c .ahead-of .ensures k (s .pre .1)))
 
 end-of-requires : tie.Need-end-of-requires
 end-of-requires c κs = search needs
@@ -65,19 +74,22 @@ returns c =
     let b = begun (t .before .before .before) in
     (λ n flip d h e. e, edge-stays b (sym (tested t) ∙ c .if1 .taken), b .given .listed)
 
+area-at-requires : tie.Need-area-at-requires
+area-at-requires c κs = search needs
+
 ahead-of-requires : tie.Need-ahead-of-requires
 ahead-of-requires c κs =
-    let e = c .before .before in
+    let e = c .before .before .before .before in
     let b = begun (e .before .before) in
     (few b, subst (Within beyond) (sym (end-is e)) (end-near b))
 
 search-requires : tie.Need-search-requires
 search-requires c κs =
     let a = c .before in
-    ahead-searched (begun (start a)) (cuts a) (sym (tested (a .before .before)) ∙ a .before .if1 .left)
+    ahead-searched (begun (start a)) (cuts a) (sym (tested (test a)) ∙ a .before .before .before .if1 .left)
 
 take-in-requires : tie.Need-take-in-requires
-take-in-requires c κs = search needs
+take-in-requires c κs = start (c .before .before .before .before .before) .pre .0 .long
 
 same-length-2 : tie.Need-same-length-2
 same-length-2 c = search needs
@@ -111,6 +123,7 @@ widen-end-spec =
     none-past-requires
     same-length
     returns
+    area-at-requires
     ahead-of-requires
     search-requires
     take-in-requires

@@ -74,8 +74,8 @@
 
    Time: every call ends, but there is no limit to it that helps in practice, and a call cannot be
    interrupted. Ordinary sheets settle in microseconds to milliseconds. Beside document 000's filtering in
-   plain Rust, its forbidden regions listed, zk_settle takes 0.19 of the time (geometric mean over the
-   benchmark's lines with one copy of a rule), 1.02 on the worst line and 1.82 on the worst sheet;
+   plain Rust, its forbidden regions listed, zk_settle takes 0.18 of the time (geometric mean over the
+   benchmark's lines with one copy of a rule), 0.91 on the worst line and 1.60 on the worst sheet;
    docs/PERFORMANCE.md has more. A sheet that is made for it can make one search visit a number of
    points that grows as the fourth power of the number of boxes (k = 4), and rows can push each other one
    unit at a time over the whole of their ranges. Where sheets come from outside, call from a thread or a

@@ -31,9 +31,9 @@
 
    Allowed: a row, with a shape, is allowed at a point when the point lies in the row's ranges, every
    kind 2 rule that names the row holds there, and no kind 1 rule that names it forbids the point. One
-   does when a box of the row, there, would not be clear of one and the same box of another named row
-   wherever in its ranges that row ends up. A row with several open shapes forbids nothing. With a
-   clearance of 0, boxes that touch are clear.
+   does when, for every shape that is open for another named row, a box of the row, there, would not be
+   clear of one and the same box of that shape wherever in its ranges that row ends up. With a clearance
+   of 0, boxes that touch are clear.
 
    Findings
 

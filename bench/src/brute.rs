@@ -126,17 +126,15 @@ impl<'a> Brute<'a> {
         })
     }
 
+    fn shapes_forbid(&self, table: &[i64], rule: &[i64], s: usize, p: &Point, j: usize, t: usize) -> bool {
+        let boxes_of = |x: usize| (0..self.boxes).filter(move |&b| self.shape(b) == x as i64);
+        boxes_of(s).any(|b| boxes_of(t).any(|c| self.pair_forbids(table, rule, p, b, j, c)))
+    }
+
     fn forbids(&self, table: &[i64], rule: &[i64], i: usize, s: usize, p: &Point) -> bool {
         (1..=self.rows(table)).any(|j| {
-            let set = self.set(table, j);
-            j != i
-                && rule[2] >> (j - 1) & 1 == 1
-                && set.count_ones() == 1
-                && (0..self.boxes).filter(|&b| self.shape(b) == s as i64).any(|b| {
-                    (0..self.boxes)
-                        .filter(|&c| set == 1 << (self.shape(c) - 1))
-                        .any(|c| self.pair_forbids(table, rule, p, b, j, c))
-                })
+            let mut shapes = (1..=MAX_SHAPES).filter(|t| self.set(table, j) >> (t - 1) & 1 == 1);
+            j != i && rule[2] >> (j - 1) & 1 == 1 && shapes.all(|t| self.shapes_forbid(table, rule, s, p, j, t))
         })
     }
 

@@ -41,6 +41,17 @@ impl Area {
         (0..4).all(|d| self.low[d].max(other.low[d]) <= self.high[d].min(other.high[d]))
     }
 
+    /// The points of both.
+    #[inline(always)]
+    pub fn common(&self, other: &Area) -> Area {
+        let mut area = *self;
+        for d in 0..4 {
+            area.low[d] = area.low[d].max(other.low[d]);
+            area.high[d] = area.high[d].min(other.high[d]);
+        }
+        area
+    }
+
     #[inline(always)]
     pub fn take_in(&mut self, p: &Point) {
         for d in 0..4 {
@@ -124,10 +135,33 @@ impl Row {
         self.set & (self.set - 1) == 0
     }
 
-    /// Its shape, from 0, where it has one.
+    /// Its lowest shape, from 0.
     #[inline(always)]
     pub fn shape(&self) -> usize {
         self.set.trailing_zeros() as usize
+    }
+
+    /// Its shapes, from 0.
+    #[inline(always)]
+    pub fn shapes(&self) -> Shapes {
+        Shapes(self.set)
+    }
+}
+
+/// The shapes that are left of a set.
+pub struct Shapes(u32);
+
+impl Iterator for Shapes {
+    type Item = usize;
+
+    #[inline(always)]
+    fn next(&mut self) -> Option<usize> {
+        if self.0 == 0 {
+            return None;
+        }
+        let s = self.0.trailing_zeros() as usize;
+        self.0 &= self.0 - 1;
+        Some(s)
     }
 }
 
@@ -215,11 +249,26 @@ impl Decoded {
         &self.boxes[self.first[s] as usize..self.first[s + 1] as usize]
     }
 
-    /// What a pair of a box of shape s and a box of the row, which has one shape, forbids around p by the rule. A box
-    /// of the row that is clear of the shape's hull is passed over before the shape's boxes.
+    /// What every shape of the row forbids around p to shape s by the rule: the areas of one pair of boxes each, cut to
+    /// what they share.
     #[inline(always)]
-    pub fn forbidding_pair(&self, s: usize, row: &Row, rule: &Apart, p: &Point) -> Option<Area> {
-        for c in self.boxes_of(row.shape()) {
+    pub fn forbidding_row(&self, s: usize, row: &Row, rule: &Apart, p: &Point) -> Option<Area> {
+        if row.has_one_shape() {
+            return self.forbidding_pair(s, row, row.shape(), rule, p);
+        }
+        self.forbidding_set(s, row, rule, p)
+    }
+
+    #[cold]
+    fn forbidding_set(&self, s: usize, row: &Row, rule: &Apart, p: &Point) -> Option<Area> {
+        row.shapes().try_fold(Area::ALL, |area, t| Some(area.common(&self.forbidding_pair(s, row, t, rule, p)?)))
+    }
+
+    /// What a pair of a box of shape s and a box of the row with shape t forbids around p by the rule. A box of the row
+    /// that is clear of the shape's hull is passed over before the shape's boxes.
+    #[inline(always)]
+    fn forbidding_pair(&self, s: usize, row: &Row, t: usize, rule: &Apart, p: &Point) -> Option<Area> {
+        for c in self.boxes_of(t) {
             let core = c.core(row, rule);
             if !self.hulls[s].hits(p, &core) {
                 continue;

@@ -79,7 +79,7 @@ fn is_good_by_hulls(sheet: &Decoded, rows: &Rows) -> bool {
         let (s, p) = (rows[i].shape(), &rows[i].area.low);
         let clear = |rule, j: usize| {
             let hull = sheet.hulls[rows[j].shape()].core(&rows[j], rule);
-            !sheet.hulls[s].hits(p, &hull) || sheet.forbidding_pair(s, &rows[j], rule, p).is_none()
+            !sheet.hulls[s].hits(p, &hull) || sheet.forbidding_row(s, &rows[j], rule, p).is_none()
         };
         let mut aparts = sheet.aparts.iter().filter(|rule| rule.rows >> i & 1 == 1);
         !sheet.cut(i, s, &rows[i].area).is_empty()

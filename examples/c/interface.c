@@ -221,6 +221,18 @@ static void clearances(void)
     same("and too much here", -1, zk_check_placement(most, BLOCK, at4, TABLE));
 }
 
+/* A stands at 0 with size 3 or 4, and B has size 2: what both sizes forbid is forbidden. */
+static void several_shapes(void)
+{
+    static const int64_t sizes[MOST] = {1, 3, 1,  1, 0, 3,  2, 0, 4,  3, 0, 2,  1, 1, 3, 0, 0};
+    static const int64_t either[TABLE] = {3, 0, 0,  4, -1, 5};
+    static const int64_t past[TABLE] = {3, 0, 0,  4, 3, 5};
+    same_bound("past size 3", 0, 3, zk_least(sizes, MOST, either, TABLE, 2, 3, 0));
+    same("both sizes reach 2", -1, zk_point_allowed(sizes, MOST, either, TABLE, 2, 3, 2, 0, 0, 0));
+    same("size 4 alone reaches 3", 0, zk_point_allowed(sizes, MOST, either, TABLE, 2, 3, 3, 0, 0, 0));
+    settles("settled past size 3", sizes, MOST, either, 0, past);
+}
+
 /* The first row, of size 4, is at x and the second, of size 2, at 0: what the first bears to the second, and
    the second to the first. */
 static void stands(int64_t x, int64_t relation, int64_t converse)
@@ -366,6 +378,7 @@ int main(void)
     bounds();
     changes();
     clearances();
+    several_shapes();
     relations();
     fills();
     fills_of_two();

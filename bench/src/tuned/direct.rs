@@ -31,14 +31,10 @@ impl Form for Direct {
             while others != 0 {
                 let row = &rows[others.trailing_zeros() as usize];
                 others &= others - 1;
-                if !row.has_one_shape() {
+                if !own_hull.hits(p, &sheet.hulls[row.shape()].core(row, rule)) {
                     continue;
                 }
-                let t = row.shape();
-                if !own_hull.hits(p, &sheet.hulls[t].core(row, rule)) {
-                    continue;
-                }
-                if let Some(area) = sheet.forbidding_pair(self.shape, row, rule, p) {
+                if let Some(area) = sheet.forbidding_row(self.shape, row, rule, p) {
                     return Some(area);
                 }
             }

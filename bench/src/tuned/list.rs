@@ -48,16 +48,22 @@ impl Form for List {
             while others != 0 {
                 let j = others.trailing_zeros() as usize;
                 others &= others - 1;
-                if !rows[j].has_one_shape() {
-                    continue;
-                }
-                let t = rows[j].shape();
-                let core = sheet.hulls[t].core(&rows[j], rule);
+                // The lowest shape decides in most cases; the others cut its area down.
+                let core = sheet.hulls[rows[j].shape()].core(&rows[j], rule);
                 if !own_hull.hits_in(cut, &core) {
                     continue;
                 }
-                let area = own_hull.forbidden(&core);
-                let whole = one_box && sheet.boxes_of(t).len() == 1;
+                let mut area = own_hull.forbidden(&core);
+                let mut whole = one_box && sheet.boxes_of(rows[j].shape()).len() == 1;
+                if !rows[j].has_one_shape() {
+                    for t in rows[j].shapes().skip(1) {
+                        area = area.common(&own_hull.forbidden(&sheet.hulls[t].core(&rows[j], rule)));
+                        whole &= sheet.boxes_of(t).len() == 1;
+                    }
+                    if !area.meets(cut) {
+                        continue;
+                    }
+                }
                 if whole && area.holds_all(cut) {
                     return false;
                 }
@@ -78,7 +84,7 @@ impl Form for List {
             }
             let row = &rows[reach.row as usize];
             let rule = &sheet.aparts[reach.rule as usize];
-            if let Some(area) = sheet.forbidding_pair(self.shape, row, rule, p) {
+            if let Some(area) = sheet.forbidding_row(self.shape, row, rule, p) {
                 self.pairs.push(area);
                 return Some(area);
             }

@@ -60,19 +60,18 @@ impl<F: Form, N: FnMut()> Settling<'_, F, N> {
                 let row = &mut self.rows[i];
                 if set != row.set || area.low != row.area.low || area.high != row.area.high {
                     *row = Row { set, area };
-                    if row.has_one_shape() {
-                        due |= self.touched_by(i, !due);
-                    }
+                    due |= self.touched_by(i, !due);
                 }
             }
         }
         true
     }
 
-    /// The rows of the set `among` to which row i, with one shape, can forbid a point of their ranges.
+    /// The rows of the set `among` to which row i can forbid a point of their ranges: all that it forbids, its lowest
+    /// shape does.
     fn touched_by(&self, i: usize, among: u32) -> u32 {
         let row = &self.rows[i];
-        let hull = &self.sheet.hulls[row.set.trailing_zeros() as usize];
+        let hull = &self.sheet.hulls[row.shape()];
         let mut touched = 0;
         for rule in self.sheet.aparts.iter().filter(|rule| rule.rows >> i & 1 == 1) {
             let core = hull.core(row, rule);
@@ -80,14 +79,9 @@ impl<F: Form, N: FnMut()> Settling<'_, F, N> {
             while others != 0 {
                 let j = others.trailing_zeros() as usize;
                 others &= others - 1;
-                let mut shapes = self.rows[j].set;
-                while shapes != 0 {
-                    let own = &self.sheet.hulls[shapes.trailing_zeros() as usize];
-                    shapes &= shapes - 1;
-                    if own.hits_in(&self.rows[j].area, &core) {
-                        touched |= 1 << j;
-                        break;
-                    }
+                let other = &self.rows[j];
+                if other.shapes().any(|s| self.sheet.hulls[s].hits_in(&other.area, &core)) {
+                    touched |= 1 << j;
                 }
             }
         }

@@ -1,28 +1,22 @@
--- The code's forms of a few tests: a kind is 1 or 2, the set of the numbers 1 to n, whole rows, one shape is a set of one bit.
--- Assumes nothing.
+-- The code's forms of a few tests: a kind is 1 or 2, the set of the numbers 1 to n, whole rows. Assumes nothing.
 use mathlib.Core.Path.{_≡_, ap}
 use mathlib.Core.Logic.{⊎-elim}
 use mathlib.Core.Bool.{true, not, _||_}
 use mathlib.Core.List.{List}
-use Prim.Native.Nat.{ℕ, suc, _-_, _*_, _%_, _^_, _≤_, _<_}
+use Prim.Native.Nat.{ℕ, _-_, _*_, _%_, _^_, _≤_, _<_}
 use native.Mathlib.Nat.{one-mul, mod-eq-of-lt, div-mul-le-self}
 use native.Mathlib.Omega.{arith}
-use borrow.Author.Tests.{eqb-true, eqb-false, lt-ltb, lt-leb, ltb-true, leb-false}
-use lib.Count.{ones, trailingZeros}
-use lib.Dec.{eqb, leb, ltb}
+use borrow.Author.Tests.{lt-ltb, lt-leb, ltb-true, leb-false}
+use lib.Dec.{leb, ltb}
 use lib.IntN.{ℤ, pos}
 use lib.ListN.{length}
 use lib.Pow.{pow-pos}
 use mir.Syntax.{w64}
 use mir.Val.{SFits}
-use Rattle.integers.specs.Integer.{nat, eqZ, within}
-use Rattle.integers.specs.Below.{anyUpTo}
-use Rattle.integers.specs.Bits.{holdsOnly}
-use Rattle.integers.proofs.Booleans.{not-true, decide, passes, both-ways, or-true, or-left, or-right, clash}
-use Rattle.integers.proofs.Below.{some-upto, upto-some}
-use Rattle.integers.proofs.Bits.{one-lt}
+use Rattle.integers.specs.Integer.{eqZ, within}
+use Rattle.integers.proofs.Booleans.{not-true, decide, both-ways, or-true, or-left, or-right}
 use Rattle.integers.proofs.Ints.{ints, within-true}
-use Rattle.integers.proofs.Sets.{full-le, only-shape, no-only}
+use Rattle.integers.proofs.Sets.{full-le}
 use Rattle.sheet.specs.Layout.{rowLen, kind, isNonOverlap, isContainment, rows}
 
 one-or-two : (z : ℤ) → within (pos 1) (pos 2) z ≡ (eqZ z (pos 1) || eqZ z (pos 2))
@@ -56,17 +50,3 @@ rows-fit block t = div-mul-le-self (length t) (rowLen block)
 
 pub ltb-not-leb : (a b : ℕ) → ltb a b ≡ not (leb b a)
 ltb-not-leb a b = both-ways _ _ (λ e. ap not (lt-leb b a (ltb-true a b e))) (λ e. lt-ltb a b (leb-false b a (not-true e)))
-
--- ---- one shape
-pub one-shape : (z : ℤ) → nat z < 2 ^ 32 → eqb (ones (nat z)) 1 ≡ anyUpTo 32 (holdsOnly z)
-one-shape z h = both-ways _ _ into out
-  where
-    into : eqb (ones (nat z)) 1 ≡ true → anyUpTo 32 (holdsOnly z) ≡ true
-    into e =
-        let o = eqb-true (ones (nat z)) 1 e in
-        upto-some (holdsOnly z) (suc (trailingZeros 32 (nat z))) (omega arith) (one-lt 32 h o) (only-shape 32 z h o)
-
-    out : anyUpTo 32 (holdsOnly z) ≡ true → eqb (ones (nat z)) 1 ≡ true
-    out e =
-        let w = some-upto (holdsOnly z) e in
-        passes (λ q. clash (w .3) (no-only z (eqb-false (ones (nat z)) 1 q) (w .0)))

@@ -135,7 +135,7 @@ fn row_fixed(block: &[i64], table: &[i64], i: Place) -> bool
     requires { ⌜ RowPlace (now block) (now table) i × Count (shapeSet (now block) (now table) (i .number)) ⌝ }
     ensures { λ r. ⌜ r ≡ rowFixed (now (block .entry)) (now (table .entry)) (i .number) ⌝ }
 {
-    u32::count_ones(words::shapes_of(block, table, i)) == 1 && ranges_fixed(block, table, i)
+    words::has_one_shape(block, table, i) && ranges_fixed(block, table, i)
 }
 
 fn ranges_fixed(block: &[i64], table: &[i64], i: Place) -> bool

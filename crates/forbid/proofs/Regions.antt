@@ -35,6 +35,10 @@ module _ {k : ℕ} {p : List ℤ} where
     pub miss : {F : List ℤ → Bool} → IsRegion k F p x → x .hit ≡ false → F p ≡ false
     miss f h = sym (f .hit) ∙ h
 
+    -- it is a miss of every other test that p fails
+    pub missed-too : {F G : List ℤ → Bool} → IsRegion k F p x → x .hit ≡ false → G p ≡ false → IsRegion k G p x
+    missed-too f h e = record { hit = h ∙ sym e; around = λ t. clash t h; only = λ t. clash t h; small = f .small }
+
     -- ---- tests that are built of others
     pub forbids-same : {F G : List ℤ → Bool} → ((q : List ℤ) → F q ≡ G q) → IsRegion k F p x → IsRegion k G p x
     forbids-same e f = record { hit = f .hit ∙ e p; around = f .around; only = λ t q h. sym (e q) ∙ f .only t q h; small = f .small }
@@ -50,6 +54,16 @@ module _ {k : ℕ} {p : List ℤ} where
       around = f .around;
       only = λ u q h. e q (f .only u q h);
       small = f .small;
+    }
+
+    -- two tests together: an area of the one, cut to the area of the other
+    pub forbids-both : {F G : List ℤ → Bool} {a c : Area} → IsRegion k F p (record { hit = true; area = a }) → x .hit ≡ true
+        → IsRegion k G p x → Cuts k a c (inArea k (x .area)) → IsRegion k (λ q. F q && G q) p (record { hit = true; area = c })
+    forbids-both {a = a} f t g c = record {
+      hit = sym (true-and (sym (f .hit)) (sym (g .hit) ∙ t));
+      around = λ u. c .is p ∙ true-and (f .around refl) (g .around t);
+      only = λ u q h. let w = and-true {a = inArea k a q} (sym (c .is q) ∙ h) in true-and (f .only refl q (w .0)) (g .only t q (w .1));
+      small = c .small (f .small);
     }
 
     pub forbids-any : {n m : ℕ} (F : ℕ → List ℤ → Bool) → m < n → x .hit ≡ true

@@ -1,68 +1,66 @@
--- What another row forbids: nothing where it is the row itself, is not named or has several shapes, and else what the boxes of its one
--- shape forbid. Assumes nothing.
-use mathlib.Core.Path.{_≡_, refl, sym, ap, _∙_, subst}
-use mathlib.Core.Bool.{true, false}
+-- What another row forbids: nothing where it is the row itself or is not named, and else what every shape of its set does, which is found shape
+-- by shape (`shapesTo`). Assumes nothing.
+use mathlib.Core.Path.{_≡_, sym, ap, _∙_, subst}
+use mathlib.Core.Logic.{⊎-elim}
+use mathlib.Core.Bool.{Bool, true, false, _&&_}
 use mathlib.Core.List.{List}
-use Prim.Native.Nat.{ℕ, _+_, _≤_}
+use Prim.Native.Nat.{ℕ, _+_, _≤_, _<_}
+use native.Mathlib.Numerals.{add-one}
 use native.Mathlib.Omega.{arith}
-use lib.Count.{ones, trailingZeros}
-use lib.Dec.{eqb}
-use lib.IntN.{ℤ, pos}
-use lib.Signed.{_≤ℤ_}
-use borrow.Author.Tests.{eqb-true, eq-eqb, ne-eqb}
-use Rattle.integers.specs.Integer.{nat}
-use Rattle.integers.proofs.Booleans.{fails, both-ways}
-use Rattle.integers.proofs.Below.{upto-some}
-use Rattle.integers.proofs.Bits.{one-lt}
-use Rattle.integers.proofs.Sets.{set-below, only-held, only-test, no-only}
+use lib.IntN.{ℤ}
+use borrow.Author.Tests.{eq-eqb, ne-eqb}
+use Rattle.integers.specs.Below.{_⇒_, allUpTo, anyUpTo}
+use Rattle.integers.proofs.Booleans.{clash, fails, both-ways, implies-in, implies-out}
+use Rattle.integers.proofs.Below.{below-or, all-more, upto-at, at-upto, some-upto, upto-some}
+use Rattle.integers.proofs.Sets.{held-only}
 use Rattle.sheet.specs.Layout.{namesRow, rows, shapeSet, hasShape, hasOnly}
 use Rattle.sheet.specs.Allowed.{shapesForbid, setForbids, rowForbids}
-use Rattle.sheet.specs.Accepted.{Boxed, Table}
-use Rattle.sheet.proofs.Forbidden.{set-by, set-parts}
-use Rattle.forbid.specs.Region.{OnlyShape, rowsForbid}
+use Rattle.sheet.proofs.Forbidden.{set-at, set-one}
+use Rattle.points.proofs.Cut.{and-left}
+use Rattle.forbid.specs.Region.{rowsForbid}
 
 module _ (block : List ℤ) (t : List ℤ) where
-  -- ---- the one shape of a set; n is the set as the code holds it
-  module _ (j : ℕ) {n : ℕ} (e : n ≡ nat (shapeSet block t j)) where
-    pub single-shape : shapeSet block t j ≤ℤ pos 4294967295 → ones n ≡ 1 → OnlyShape block t j (trailingZeros 32 n + 1)
-    unfolding hasOnly
-    single-shape h o =
-        let o' : ones (nat (shapeSet block t j)) ≡ 1 = sym (ap ones e) ∙ o in
-        record {
-          is = λ s l. only-test 32 (shapeSet block t j) (set-below 32 h) o' s ∙ ap (λ (m : ℕ). eqb (trailingZeros 32 m + 1) s) (sym e);
-          upto = rw e (omega (arith, one-lt 32 (set-below 32 h) o'));
-        }
-
-    pub several-shapes : (ones n ≡ 1 → ⊥) → OnlyShape block t j 0
-    unfolding hasOnly
-    several-shapes f =
-        record {
-          is = λ s l. no-only (shapeSet block t j) (λ q. f (ap ones e ∙ q)) s ∙ sym (ne-eqb 0 s (λ q. omega arith));
-          upto = omega arith;
-        }
-
-  -- a shape of a row's set has a box
-  pub single-boxed : {j y : ℕ} → Table block t → OnlyShape block t j y → 1 ≤ j → j ≤ rows block t → (y ≡ 0 → ⊥) → Boxed block y
-  unfolding hasShape hasOnly
-  single-boxed {j} {y} w o h k n =
-      w .boxed j y h k (only-held (shapeSet block t j) y (o .is y (omega (arith, n)) ∙ eq-eqb y y refl))
-
   module _ (r i s j : ℕ) where
-    -- ---- the other row's set
-    module _ {y : ℕ} (o : OnlyShape block t j y) where
-      shape-is : {x : ℕ} → 1 ≤ x → hasOnly block t j x ≡ true → y ≡ x
-      shape-is {x} h e = eqb-true y x (sym (o .is x h) ∙ e)
+    -- ---- the other row's set, shape by shape: what each of the shapes up to n forbids
+    abbrev test : List ℤ → ℕ → Bool
+    test p x = hasShape block t j x ⇒ shapesForbid block t r p i s j x
 
-      pub several-none : y ≡ 0 → (p : List ℤ) → setForbids block t r p i s j ≡ false
-      several-none e p = fails (λ h. let w = set-parts block t r i s j p h in omega (arith, w .from, e, shape-is (w .from) (w .only)))
+    abbrev pub shapesTo : ℕ → List ℤ → Bool
+    shapesTo n p = allUpTo n (test p)
 
-      pub single-set : (y ≡ 0 → ⊥) → (p : List ℤ) → shapesForbid block t r p i s j y ≡ setForbids block t r p i s j
-      single-set n p =
-          let h : 1 ≤ y = omega (arith, n) in
-          both-ways _ _
-          (λ e. set-by block t r i s j p (record { shape = y; from = h; upto = o .upto; only = o .is y h ∙ eq-eqb y y refl; forbids = e }))
-          (λ e. let w = set-parts block t r i s j p e in
-          subst (λ (x : ℕ). shapesForbid block t r p i s j x ≡ true) (sym (shape-is (w .from) (w .only))) (w .forbids))
+    -- the set holds none of them
+    pub shapes-none : (n : ℕ) → ((x : ℕ) → 1 ≤ x → x ≤ n → hasShape block t j x ≡ false) → (p : List ℤ) → shapesTo n p ≡ true
+    shapes-none n f p = at-upto (test p) (λ x h l. implies-out _ (f x h l))
+
+    -- one shape more, which the set does not hold, or does
+    pub shapes-skip : (n : ℕ) → hasShape block t j (n + 1) ≡ false → (p : List ℤ) → shapesTo n p ≡ shapesTo (n + 1) p
+    shapes-skip n e p =
+        and-left (allUpTo n (test p)) _ (λ f. implies-out _ (subst (λ (x : ℕ). hasShape block t j x ≡ false) (add-one n) e)) ∙ sym (all-more n _)
+
+    pub shapes-more : (n : ℕ) → hasShape block t j (n + 1) ≡ true → (p : List ℤ)
+        → (shapesTo n p && shapesForbid block t r p i s j (n + 1)) ≡ shapesTo (n + 1) p
+    shapes-more n e p =
+        ap (λ (x : Bool). allUpTo n (test p) && x) (sym (implies-in _ e) ∙ ap (test p) (add-one n)) ∙ sym (all-more n _)
+
+    -- none is left
+    pub shapes-all : (n : ℕ) → n ≤ 32 → ((x : ℕ) → n < x → hasShape block t j x ≡ false) → (p : List ℤ)
+        → shapesTo n p ≡ setForbids block t r p i s j
+    unfolding setForbids
+    shapes-all n l f p = both-ways _ _
+        (λ e. at-upto (test p) (λ x h k. ⊎-elim (λ u. implies-out _ (f x u)) (λ u. upto-at (test p) e x h u) (below-or n x)))
+        (λ e. at-upto (test p) (λ x h k. upto-at (test p) e x h (omega arith)))
+
+    -- a shape of the set that misses the point, and the one shape of a set
+    pub set-missed : (x : ℕ) → x ≤ 32 → hasShape block t j x ≡ true → (p : List ℤ) → shapesForbid block t r p i s j x ≡ false
+        → setForbids block t r p i s j ≡ false
+    set-missed x l held p e = fails (λ f. clash (set-at block t r i s j p f x l held) e)
+
+    pub set-single : (x : ℕ) → x ≤ 32 → hasShape block t j x ≡ true → anyUpTo 32 (hasOnly block t j) ≡ true → (p : List ℤ)
+        → shapesForbid block t r p i s j x ≡ setForbids block t r p i s j
+    unfolding hasShape hasOnly
+    set-single x l held one p =
+        let w = some-upto (hasOnly block t j) one in
+        set-one block t r i s j x p l (held-only (shapeSet block t j) (w .0) x (w .3) held)
 
     -- ---- the other row
     pub itself-none : i ≡ j → (p : List ℤ) → rowForbids block t r p i s j ≡ false

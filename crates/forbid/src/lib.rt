@@ -19,10 +19,11 @@ use points::Area;
 use points::COORDINATES;
 use words::Place;
 
-// Whether a point is forbidden, and where it is, an area around it in which every point is.
+// Whether a point is forbidden, and where it is, an area around it in which every point is. The area stands first: a copy of what follows the
+// mark would lie athwart the words as they were written, and wait for them.
 pub struct Region {
-    pub hit: bool,
     pub area: Area,
+    pub hit: bool,
 }
 
 impl Region {

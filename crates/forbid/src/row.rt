@@ -1,23 +1,29 @@
-// What one other row forbids: by the one shape that its set holds, by some pair of boxes.
+// What one other row forbids: by every shape of its set, each by some pair of boxes.
 ghost use mathlib.Core.Path.{_≡_};
-ghost use Prim.Native.Nat.{ℕ, _≤_};
+ghost use Prim.Native.Nat.{ℕ};
 ghost use Rattle.sheet.specs.Layout.{axes};
 ghost use Rattle.sheet.specs.Allowed.{shapesForbid, setForbids, rowForbids};
-ghost use Rattle.sheet.specs.Accepted.{Boxed, Block, Table};
-ghost use Rattle.words.specs.Places.{RowPlace};
-ghost use Rattle.forbid.specs.Region.{IsRegion, AtPoint, Versus, OnlyShape};
+ghost use Rattle.sheet.specs.Accepted.{Boxed};
+ghost use Rattle.forbid.specs.Region.{IsRegion, Versus, PairFound};
 use crate::Region;
 use crate::pair;
 use crate::pair::Pair;
 use outline::OUTLINE;
 use outline::chain;
 use outline::solid;
+use points::Area;
 use points::COORDINATES;
 use words::Place;
 
-// What row j forbids with shape t to shape s of another row: one pair of boxes is enough. A box of t that is clear of the hull of s is
-// clear of every box of s.
-fn shapes_region(
+// A box of a row and a box of another row.
+pub(crate) struct Boxes {
+    pub own: usize,
+    pub other: usize,
+}
+
+// A box of shape s and a box of shape t of row j that forbid p: one pair is enough. Past all boxes where none do. A box of t that is clear of
+// the hull of s is clear of every box of s.
+fn forbidding_boxes(
     block: &[i64],
     table: &[i64],
     outline: &[i64; OUTLINE],
@@ -26,14 +32,13 @@ fn shapes_region(
     j: Place,
     t: usize,
     p: [i64; COORDINATES],
-) -> Region
+) -> Boxes
     requires { ⌜ Versus (now block) (now table) (now outline) r s j p × Boxed (now block) t ⌝ }
-    ensures { λ x. ⌜ ((i : ℕ) → IsRegion (axes (now (block .entry)))
-        (λ q. shapesForbid (now (block .entry)) (now (table .entry)) (r .number) q i s (j .number) t) p x) ⌝ }
+    ensures { λ x. ⌜ PairFound (now (block .entry)) (now (table .entry)) (now (outline .entry)) r s j t p x ⌝ }
 {
     let n = words::boxes_of(block);
     let hull = solid::hull_of(s);
-    let mut found = Region::none();
+    let mut own = n;
     let mut other = chain::first_of(block, outline, t);
     'pairs: while other < n {
         if pair::pair_forbids(
@@ -48,14 +53,9 @@ fn shapes_region(
             },
             p,
         ) {
-            let mut own = chain::first_of(block, outline, s);
+            own = chain::first_of(block, outline, s);
             while own < n {
-                let pair = Pair { r, own, j, other };
-                if pair::pair_forbids(block, table, outline, pair, p) {
-                    found = Region {
-                        hit: true,
-                        area: pair::pair_area(block, table, outline, pair),
-                    };
+                if pair::pair_forbids(block, table, outline, Pair { r, own, j, other }, p) {
                     break 'pairs;
                 }
                 own = chain::after(block, outline, own, s);
@@ -63,22 +63,38 @@ fn shapes_region(
         }
         other = chain::after(block, outline, other, t);
     }
-    found
+    Boxes { own, other }
 }
 
-// The one shape of row j, or 0 where its set holds several.
-pub fn only_shape(block: &[i64], table: &[i64], j: Place) -> usize
-    requires { ⌜ Block (now block) × Table (now block) (now table) × RowPlace (now block) (now table) j ⌝ }
-    ensures { λ x. ⌜ OnlyShape (now (block .entry)) (now (table .entry)) (j .number) x ⌝ }
+// What row j forbids with shape t to shape s of another row: what a pair of boxes does.
+pub fn shapes_region(
+    block: &[i64],
+    table: &[i64],
+    outline: &[i64; OUTLINE],
+    r: Place,
+    s: usize,
+    j: Place,
+    t: usize,
+    p: [i64; COORDINATES],
+) -> Region
+    requires { ⌜ Versus (now block) (now table) (now outline) r s j p × Boxed (now block) t ⌝ }
+    ensures { λ x. ⌜ ((i : ℕ) → IsRegion (axes (now (block .entry)))
+        (λ q. shapesForbid (now (block .entry)) (now (table .entry)) (r .number) q i s (j .number) t) p x) ⌝ }
 {
-    let set = words::shapes_of(block, table, j);
-    if u32::count_ones(set) == 1 {
-        return u32::trailing_zeros(set) as usize + 1;
+    let boxes = forbidding_boxes(block, table, outline, r, s, j, t, p);
+    let own = boxes.own;
+    let other = boxes.other;
+    if other >= words::boxes_of(block) {
+        return Region::none();
     }
-    0
+    Region {
+        hit: true,
+        area: pair::pair_area(block, table, outline, Pair { r, own, j, other }),
+    }
 }
 
-// What row j forbids by its set: nothing where that holds several shapes.
+// What row j forbids by its set, from its first shape to its last: each of them forbids the point, and the area is what they share. No further
+// than the first that misses.
 pub fn set_region(
     block: &[i64],
     table: &[i64],
@@ -92,11 +108,25 @@ pub fn set_region(
     ensures { λ x. ⌜ ((i : ℕ) → IsRegion (axes (now (block .entry)))
         (λ q. setForbids (now (block .entry)) (now (table .entry)) (r .number) q i s (j .number)) p x) ⌝ }
 {
-    let t = only_shape(block, table, j);
-    if t == 0 {
-        return Region::none();
+    let k = words::axes_of(block);
+    let set = words::shapes_of(block, table, j);
+    let mut area = Area::field();
+    let mut t = u32::trailing_zeros(set) as usize;
+    while t < 32 {
+        if words::is_below(set, t) {
+            break;
+        }
+        if words::has_shape(block, table, j, t + 1) {
+            let x = shapes_region(block, table, outline, r, s, j, t + 1, p);
+            let hit = x.hit;
+            if !hit {
+                return x;
+            }
+            area = area.common(k, x.area);
+        }
+        t += 1;
     }
-    shapes_region(block, table, outline, r, s, j, t, p)
+    Region { hit: true, area }
 }
 
 // What row j forbids to row i, if it is another row and the rule names it.

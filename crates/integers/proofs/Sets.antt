@@ -5,22 +5,22 @@ use mathlib.Core.Logic.{_⊎_, inl, inr, ⊎-elim}
 use mathlib.Core.Bool.{Bool, true, false, cond}
 use Prim.Native.Nat.{ℕ, zero, suc, _+_, _-_, _^_, _≤_, _<_}
 use native.Mathlib.Nat.{not-suc-le-zero, add-zero, le-refl, le-antisymm}
-use native.Mathlib.Numerals.{add-one}
 use native.Mathlib.Omega.{arith}
-use borrow.Author.Tests.{eq-eqb, eqb-true}
+use borrow.Author.Tests.{eqb-true, eqb-false}
 use lib.Count.{ones, trailingZeros}
 use lib.Dec.{eqb}
 use lib.IntN.{ℤ, pos}
 use lib.Pow.{pow-pos, pow-mono}
 use lib.Signed.{_≤ℤ_}
 use Rattle.integers.specs.Integer.{nat}
+use Rattle.integers.specs.Below.{anyUpTo}
 use Rattle.integers.specs.Bits.{bitAt, bit, holds, holdsOnly, setOf}
-use Rattle.integers.proofs.Booleans.{clash, decide, fails, both-ways}
+use Rattle.integers.proofs.Booleans.{clash, decide, fails, passes, both-ways}
 use Rattle.integers.proofs.Ints.{ints, disjoint, eqZ-eq, eq-eqZ}
-use Rattle.integers.proofs.Below.{below-or, last-or}
+use Rattle.integers.proofs.Below.{below-or, last-or, some-upto, upto-some}
 use Rattle.integers.proofs.Ranges.{le-nat, nat-le, pos-nat}
 use Rattle.integers.proofs.Bits.{bitAt-past, bitAt-pos, bit-one, one-bit, same-bit, bit-past, bits-le, some-bit, place-high, place-low}
-use Rattle.integers.proofs.Bits.{Only, power-only, only-power, only-one, one-only}
+use Rattle.integers.proofs.Bits.{zero-bit, Only, power-only, only-power, only-one, one-only, one-lt, tz-bit, tz-below}
 
 -- ---- the numbers of a set
 pub none-zero : (z : ℤ) → holds z 0 ≡ false
@@ -101,24 +101,37 @@ same-only z {s = suc m} {t = suc d} e h = ap suc (only-bit z m e .sole d (bit-on
 pub held-only : (z : ℤ) (s t : ℕ) → holdsOnly z s ≡ true → holds z t ≡ true → holdsOnly z t ≡ true
 held-only z s t e h = subst (λ (x : ℕ). holdsOnly z x ≡ true) (sym (same-only z e h)) e
 
-pub only-of : (z : ℤ) (s : ℕ) → holds z s ≡ true → ((t : ℕ) → holds z t ≡ true → t ≡ s) → holdsOnly z s ≡ true
-only-of z zero e h = clash e (none-zero z)
-only-of z (suc m) e h =
-    bit-only z m (record { here = held-one z m e; sole = λ d q. let w : suc d ≡ suc m = h (suc d) (one-held z d q) in omega arith })
-
 -- ---- the same by the set's ones and trailing zeros
 pub only-shape : (k : ℕ) (z : ℤ) → nat z < 2 ^ k → ones (nat z) ≡ 1 → holdsOnly z (suc (trailingZeros k (nat z))) ≡ true
 only-shape k z h o = bit-only z (trailingZeros k (nat z)) (one-only k h o)
-
-pub only-test : (k : ℕ) (z : ℤ) → nat z < 2 ^ k → ones (nat z) ≡ 1 → (s : ℕ) → holdsOnly z s ≡ eqb (trailingZeros k (nat z) + 1) s
-only-test k z h o s = both-ways _ _
-    (λ e. eq-eqb _ s (add-one _ ∙ same-only z e (only-held z _ (only-shape k z h o))))
-    (λ e. subst (λ (x : ℕ). holdsOnly z x ≡ true) (sym (add-one _) ∙ eqb-true _ s e) (only-shape k z h o))
 
 pub no-only : (z : ℤ) → (ones (nat z) ≡ 1 → ⊥) → (s : ℕ) → holdsOnly z s ≡ false
 unfolding holdsOnly
 no-only z f zero = refl
 no-only z f (suc m) = fails (λ e. f (only-one (only-bit z m e)))
+
+pub one-only-held : (k : ℕ) (z : ℤ) → nat z < 2 ^ k → eqb (ones (nat z)) 1 ≡ anyUpTo k (holdsOnly z)
+one-only-held k z h = both-ways _ _ into out
+  where
+    into : eqb (ones (nat z)) 1 ≡ true → anyUpTo k (holdsOnly z) ≡ true
+    into e =
+        let o = eqb-true (ones (nat z)) 1 e in
+        upto-some (holdsOnly z) (suc (trailingZeros k (nat z))) (omega arith) (one-lt k h o) (only-shape k z h o)
+
+    out : anyUpTo k (holdsOnly z) ≡ true → eqb (ones (nat z)) 1 ≡ true
+    out e =
+        let w = some-upto (holdsOnly z) e in
+        passes (λ q. clash (w .3) (no-only z (eqb-false (ones (nat z)) 1 q) (w .0)))
+
+-- ---- the lowest number of a set stands where its trailing zeros end
+pub lowest-held : (k : ℕ) {z : ℤ} → pos 1 ≤ℤ z → nat z < 2 ^ k → holds z (suc (trailingZeros k (nat z))) ≡ true
+lowest-held k {z} h l = one-held z (trailingZeros k (nat z)) (tz-bit k l (le-nat h))
+
+pub lowest-least : (k : ℕ) (z : ℤ) (s : ℕ) → holds z s ≡ true → suc (trailingZeros k (nat z)) ≤ s
+unfolding holds
+lowest-least k z zero e = clash e refl
+lowest-least k z (suc m) e =
+    ⊎-elim (λ l. clash e (zero-bit z m (tz-below k (nat z) m l))) (λ l. omega (arith, l)) (below-or m (trailingZeros k (nat z)))
 
 -- ---- the set of the numbers 1 to n that pass a test
 pub setOf-zero : (f : ℕ → Bool) → setOf 0 f ≡ 0

@@ -13,7 +13,7 @@ use Rattle.integers.proofs.Below.{any-true}
 use Rattle.sheet.specs.Layout.{rules, dims, isNonOverlap, namesDim, namesRow}
 use Rattle.sheet.specs.Allowed.{setForbids, forbidden}
 use Rattle.sheet.proofs.Clearance.{pair-wider}
-use Rattle.sheet.proofs.Forbidden.{shapes-by, shapes-parts, set-by, set-parts, forbidden-parts}
+use Rattle.sheet.proofs.Forbidden.{set-carries, forbidden-parts}
 use Rattle.outline.specs.Places.{rulesAt}
 use Rattle.outline.specs.Clearance.{Keeps}
 use Rattle.outline.specs.Rules.{Rules}
@@ -24,24 +24,7 @@ use Rattle.nearby.specs.Due.{HarmlessBy}
 module _ (block t : List ℤ) (r q : ℕ) (fewer : (d : ℕ) → d < dims block → namesDim block q d ≡ true → namesDim block r d ≡ true)
     (keeps : Keeps block q r) where
   set-covered : (i s j : ℕ) (p : List ℤ) → setForbids block t r p i s j ≡ true → setForbids block t q p i s j ≡ true
-  set-covered i s j p e =
-      let w = set-parts block t r i s j p e in
-      let v = shapes-parts block t r i s j (w .shape) p (w .forbids) in
-      set-by block t q i s j p (record {
-        shape = w .shape;
-        from = w .from;
-        upto = w .upto;
-        only = w .only;
-        forbids = shapes-by block t q i s j (w .shape) p (record {
-          own = v .own;
-          other = v .other;
-          own-below = v .own-below;
-          other-below = v .other-below;
-          own-is = v .own-is;
-          other-is = v .other-is;
-          pair = pair-wider block t r q fewer keeps i (v .own) j (v .other) p (v .pair);
-        });
-      })
+  set-covered i s j p = set-carries block t t r q i s j p (λ b c. pair-wider block t r q fewer keeps i b j c p) (λ s' held. held)
 
 module _ (block t o : List ℤ) (w : Rules block o) where
   -- no rule from m on counts

@@ -20,7 +20,6 @@ use Rattle.sheet.specs.Allowed.{inRanges, setForbids}
 use Rattle.sheet.specs.Accepted.{Count}
 use Rattle.points.specs.declared.Area.{Area}
 use Rattle.points.specs.Area.{inArea}
-use Rattle.outline.specs.Chain.{Sole}
 use Rattle.points.specs.Ends.{SameBut}
 use Rattle.nearby.specs.Places.{suspectLen, suspectAt, full, suspectArea}
 use Rattle.nearby.specs.Known.{Remembered}
@@ -128,12 +127,12 @@ module _ {block t : List ℤ} {i s : ℕ} where
     }
 
   -- ---- one area more
-  module _ {r j u : ℕ} {area : Area} (threat : Threat block t i s r j u area) where
+  module _ {r j : ℕ} {area : Area} {filled : Bool} (threat : Threat block t i s r j area filled) where
     pub grows-known : {l known known' : List ℤ} {n : ℕ} {had-room : Bool} → Remembered known area had-room known' → had-room ≡ true
-        → Sole block s → Sole block u → Grows block t i s (λ p. setForbids block t r p i s j) l known n l known' n
-    grows-known w had own other = record {
+        → filled ≡ true → Grows block t i s (λ p. setForbids block t r p i s j) l known n l known' n
+    grows-known w had full-of = record {
       after = λ G g. record {
-        areas = known-more (g .areas) (record { forbids = threat .fills own other; small = threat .small }) w;
+        areas = known-more (g .areas) (record { forbids = threat .fills full-of; small = threat .small }) w;
         suspects = g .suspects;
         meets = λ f p inside h k. ⊎-elim (λ v. g .meets f p inside v (held-before block p w k))
             (λ v. clash (held-new block p w had (threat .holds p inside v)) k) (or-true {a = G p} h);

@@ -5,11 +5,12 @@ use mathlib.Core.List.{List}
 use Prim.Native.Nat.{ℕ, _≤_, _<_}
 use lib.IntN.{ℤ}
 use lib.ListN.{length}
-use Rattle.sheet.specs.Layout.{axes, rules, rows, isNonOverlap, namesRow}
+use Rattle.integers.specs.Below.{anyUpTo}
+use Rattle.sheet.specs.Layout.{axes, rules, rows, isNonOverlap, namesRow, shapeSet, hasOnly}
 use Rattle.sheet.specs.Allowed.{inRanges, setForbids, forbidden}
-use Rattle.sheet.specs.Accepted.{Head}
+use Rattle.sheet.specs.Accepted.{Count}
 use Rattle.words.specs.declared.Place.{Place}
-use Rattle.words.specs.Places.{RulePlace}
+use Rattle.words.specs.Places.{RulePlace, RowPlace}
 use Rattle.points.specs.declared.Area.{Area}
 use Rattle.points.specs.Area.{inArea, Small}
 use Rattle.outline.specs.Chain.{Chained, Sole}
@@ -35,14 +36,14 @@ module _ (block t : List ℤ) (i s : ℕ) where
   pub record Grows (H : List ℤ → Bool) (list known : List ℤ) (n : ℕ) (list' known' : List ℤ) (n' : ℕ) : Type 0 where
     pub after : (G : List ℤ → Bool) → Gathered list known n G → Gathered list' known' n' (λ p. G p || H p)
 
-  -- an area that holds what row j, with its one shape u, forbids by rule r, and that is forbidden where both shapes have one box
-  pub record Threat (r j u : ℕ) (area : Area) : Type 0 where
+  -- an area that holds what row j forbids by rule r, and that is forbidden where row j fills it
+  pub record Threat (r j : ℕ) (area : Area) (filled : Bool) : Type 0 where
     pub rule : r < rules block
     pub from : 1 ≤ j
     pub upto : j ≤ rows block t
     pub sound : (q : List ℤ) → setForbids block t r q i s j ≡ true → forbidden block t i s q ≡ true
     pub holds : (p : List ℤ) → inRanges block t i p ≡ true → setForbids block t r p i s j ≡ true → inArea (axes block) area p ≡ true
-    pub fills : Sole block s → Sole block u → (q : List ℤ) → inArea (axes block) area q ≡ true → forbidden block t i s q ≡ true
+    pub fills : filled ≡ true → (q : List ℤ) → inArea (axes block) area q ≡ true → forbidden block t i s q ≡ true
     pub small : Small area
 
 -- a list to which something is added
@@ -56,12 +57,22 @@ pub record Binds (block : List ℤ) (i : ℕ) (r : Place) : Type 0 where
   pub kind : isNonOverlap block (r .number) ≡ true
   pub names : namesRow block (r .number) i ≡ true
 
--- the runs to which an area is added, and the numbers of the shapes, the rule and the row
-pub record Space (block o list known : List ℤ) (n s u r j : ℕ) : Type 0 where
-  pub head : Head block
+-- two shapes by number, and row j
+pub record Hulled (block t o : List ℤ) (s : ℕ) (j : Place) (u : ℕ) : Type 0 where
   pub chained : Chained block o
   pub own : s < shapesMost
   pub other : u < shapesMost
+  pub row : RowPlace block t j
+  pub set : Count (shapeSet block t (j .number))
+
+-- both shapes have one box, and row j has one shape
+pub record FillsHulls (block t : List ℤ) (s j u : ℕ) : Type 0 where
+  pub own : Sole block s
+  pub other : Sole block u
+  pub one : anyUpTo 32 (hasOnly block t j) ≡ true
+
+-- the runs to which an area is added, and the numbers of the rule and the row
+pub record Space (list known : List ℤ) (n r j : ℕ) : Type 0 where
   pub rule : r ≤ 32
   pub row : j ≤ 32
   pub counted : Counted known

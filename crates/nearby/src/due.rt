@@ -4,7 +4,6 @@ ghost use mathlib.Core.Bool.{false};
 ghost use Rattle.nearby.specs.Due.{HarmlessBy, ShapeHarmless, Faces, ShapeFaces};
 use crate::gather;
 use forbid::pair;
-use forbid::row;
 use outline::OUTLINE;
 use words::Place;
 
@@ -30,7 +29,8 @@ fn threatens_shape(
     x.hit
 }
 
-// Whether row j can forbid row i some point of its ranges by rule r: from the first shape of row i's set to the last.
+// Whether row j can forbid row i some point of its ranges by rule r: its lowest shape forbids all that it does. From the first shape of row i's
+// set to the last.
 pub fn threatens_row(
     block: &[i64],
     table: &[i64],
@@ -42,12 +42,9 @@ pub fn threatens_row(
     requires { ⌜ Faces (now block) (now table) (now outline) r j i ⌝ }
     ensures { λ x. ⌜ (x ≡ false → HarmlessBy (now (block .entry)) (now (table .entry)) (r .number) (j .number) (i .number)) ⌝ }
 {
-    let t = row::only_shape(block, table, j);
-    if t == 0 {
-        return false;
-    }
-    let own = row::only_shape(block, table, i);
-    if own > 0 {
+    let t = words::lowest_shape(block, table, j);
+    if words::has_one_shape(block, table, i) {
+        let own = words::lowest_shape(block, table, i);
         return threatens_shape(block, table, outline, r, j, t, i, own);
     }
     let set = words::shapes_of(block, table, i);

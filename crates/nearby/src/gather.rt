@@ -1,6 +1,6 @@
 // Listing: every rule that counts and names the row, and every other row that it names.
 ghost use mathlib.Core.Path.{_≡_};
-ghost use mathlib.Core.Bool.{_&&_};
+ghost use mathlib.Core.Bool.{true, _&&_};
 ghost use mathlib.Core.List.{List};
 ghost use Prim.Native.Nat.{ℕ, _<_};
 ghost use lib.IntN.{ℤ};
@@ -13,7 +13,7 @@ ghost use Rattle.outline.specs.Outline.{Subject};
 ghost use Rattle.outline.specs.Places.{rulesAt, shapesMost, hullOf};
 ghost use Rattle.forbid.specs.Region.{rowsForbid, ruleForbids};
 ghost use Rattle.nearby.specs.Listing.{Listed};
-ghost use Rattle.nearby.specs.Adding.{Adding, Binds, Grows, Space, Threat};
+ghost use Rattle.nearby.specs.Adding.{Hulled, FillsHulls, Adding, Binds, Grows, Space, Threat};
 use crate::Nearby;
 use crate::known;
 use crate::known::KNOWN;
@@ -21,7 +21,6 @@ use crate::suspect;
 use crate::suspect::SUSPECT;
 use forbid::pair;
 use forbid::pair::Pair;
-use forbid::row;
 use outline::OUTLINE;
 use outline::chain;
 use outline::rules;
@@ -51,30 +50,43 @@ pub(crate) fn hulls(r: Place, s: usize, j: Place, t: usize) -> Pair
     }
 }
 
-// Lists the area that shape t of row j threatens by rule r: as known where both shapes have one box, and else as a suspect's. How many suspects
-// there are then.
-fn add_area(
+// Whether row j forbids all that the hulls of shape s and of its shape t do: it has no other shape, and both shapes have one box.
+fn fills_hulls(
     block: &[i64],
+    table: &[i64],
     outline: &[i64; OUTLINE],
+    s: usize,
+    j: Place,
+    t: usize,
+) -> bool
+    requires { ⌜ Hulled (now block) (now table) (now outline) s j t ⌝ }
+    ensures { λ x. ⌜ (x ≡ true → FillsHulls (now (block .entry)) (now (table .entry)) s (j .number) t) ⌝ }
+{
+    if !words::has_one_shape(block, table, j) {
+        return false;
+    }
+    chain::is_single(block, outline, s) && chain::is_single(block, outline, t)
+}
+
+// Lists an area that row j threatens by rule r: as known where row j forbids all of it, and else as a suspect's. How many suspects there are
+// then.
+fn add_area(
     suspects: &mut [i64],
     known: &mut [i64; KNOWN],
     count: usize,
-    s: usize,
     r: usize,
     j: usize,
-    t: usize,
     area: Area,
+    fills: bool,
 ) -> usize
-    requires { ⌜ Space (now block) (now outline) (now suspects) (now known) count s t r j ⌝ }
-    ensures { λ y. ⌜ ((table : List ℤ) (i : ℕ) → Threat (now (block .entry)) table i s r j t area
-        → Grows (now (block .entry)) table i s (λ p. setForbids (now (block .entry)) table r p i s j)
+    requires { ⌜ Space (now suspects) (now known) count r j ⌝ }
+    ensures { λ y. ⌜ ((block table : List ℤ) (i s : ℕ) → Threat block table i s r j area fills
+        → Grows block table i s (λ p. setForbids block table r p i s j)
         (now (suspects .entry)) (now (known .entry)) count (now (suspects .exit)) (now (known .exit)) y) ⌝ }
 {
-    if chain::is_single(block, outline, s) {
-        if chain::is_single(block, outline, t) {
-            if known::remember(known, area) {
-                return count;
-            }
+    if fills {
+        if known::remember(known, area) {
+            return count;
         }
     }
     if count >= FULL {
@@ -87,7 +99,8 @@ fn add_area(
     count + 1
 }
 
-// Lists row j, if it is another row, the rule names it, it has one shape and that can forbid a point of row i's ranges.
+// Lists row j, if it is another row, the rule names it, and its lowest shape can forbid a point of row i's ranges: what row j forbids, that shape
+// does.
 fn add_row(
     block: &[i64],
     table: &[i64],
@@ -114,11 +127,8 @@ fn add_row(
     if !words::names_row(block, r, other) {
         return count;
     }
-    let t = row::only_shape(block, table, j);
-    if t == 0 {
-        return count;
-    }
     let s = q.s;
+    let t = words::lowest_shape(block, table, j);
     let pair = hulls(r, s, j, t);
     let x = pair::pair_meets(block, table, outline, pair, i);
     let hit = x.hit;
@@ -127,18 +137,8 @@ fn add_row(
     }
     let area = x.area;
     let rule = r.number;
-    add_area(
-        block,
-        outline,
-        suspects,
-        known,
-        count,
-        s,
-        rule,
-        other,
-        t,
-        area,
-    )
+    let fills = fills_hulls(block, table, outline, s, j, t);
+    add_area(suspects, known, count, rule, other, area, fills)
 }
 
 // Lists every row of rule r.

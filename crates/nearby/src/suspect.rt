@@ -1,17 +1,17 @@
 // Suspects: another row and a rule, and an area that holds every point that they can forbid.
 ghost use mathlib.Core.Path.{_≡_};
-ghost use Prim.Native.Nat.{suc, _*_, _≤_};
+ghost use Prim.Native.Nat.{ℕ, suc, _*_, _≤_};
 ghost use lib.Count.{ones};
 ghost use lib.IntN.{pos};
 ghost use lib.ListN.{length};
 ghost use Rattle.integers.specs.Words.{word};
 ghost use Rattle.integers.specs.Integer.{nat};
 ghost use Rattle.sheet.specs.Layout.{axes, rows};
-ghost use Rattle.sheet.specs.Allowed.{forbidden};
+ghost use Rattle.sheet.specs.Allowed.{setForbids, forbidden};
 ghost use Rattle.sheet.specs.Accepted.{Count, Head, Rows};
 ghost use Rattle.points.specs.Ends.{SameBut};
 ghost use Rattle.outline.specs.Places.{rulesAt};
-ghost use Rattle.forbid.specs.Region.{IsRegion};
+ghost use Rattle.forbid.specs.Region.{IsRegion, Versus};
 ghost use Rattle.nearby.specs.Places.{suspectLen, suspectAt, suspectRow, suspectArea};
 ghost use Rattle.nearby.specs.Listing.{Suspected};
 use crate::Nearby;
@@ -60,6 +60,27 @@ pub(crate) fn put_suspect(suspects: &mut [i64], e: usize, r: usize, j: usize, ar
     ends::put_area(suspects, at + AREA, area);
 }
 
+// What row j forbids to shape s around p by rule r. A row with one shape, as most have, is asked about by that shape alone.
+fn suspect_region(
+    block: &[i64],
+    table: &[i64],
+    outline: &[i64; OUTLINE],
+    r: Place,
+    s: usize,
+    j: Place,
+    p: [i64; COORDINATES],
+) -> Region
+    requires { ⌜ Versus (now block) (now table) (now outline) r s j p ⌝ }
+    ensures { λ x. ⌜ ((i : ℕ) → IsRegion (axes (now (block .entry)))
+        (λ q. setForbids (now (block .entry)) (now (table .entry)) (r .number) q i s (j .number)) p x) ⌝ }
+{
+    if words::has_one_shape(block, table, j) {
+        let t = words::lowest_shape(block, table, j);
+        return row::shapes_region(block, table, outline, r, s, j, t, p);
+    }
+    row::set_region(block, table, outline, r, s, j, p)
+}
+
 // What forbids p among the suspects whose area holds it, or where the list is not whole among all rules and rows.
 pub(crate) fn suspected_region(
     block: &[i64],
@@ -87,7 +108,7 @@ pub(crate) fn suspected_region(
         if ends::area_holds(suspects, at + AREA, k, p) {
             let r = words::rule_place(block, words::count_at(suspects, at));
             let j = words::row_place(block, table, words::count_at(suspects, at + ROW));
-            let x = row::set_region(block, table, outline, r, s, j, p);
+            let x = suspect_region(block, table, outline, r, s, j, p);
             let hit = x.hit;
             if hit {
                 return x;

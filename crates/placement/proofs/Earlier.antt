@@ -10,14 +10,14 @@ use native.Mathlib.Omega.{arith}
 use lib.IntN.{ℤ}
 use lib.Signed.{_≤ℤ_}
 use Rattle.integers.specs.Words.{word}
-use Rattle.integers.proofs.Booleans.{clash, fails, both-ways, and-true, true-and}
+use Rattle.integers.proofs.Booleans.{clash, fails, and-true, true-and}
 use Rattle.integers.proofs.Below.{any-at, any-true, upto-at, at-upto, some-upto, upto-some, below-or}
-use Rattle.integers.proofs.Sets.{only-held, same-only}
-use Rattle.sheet.specs.Layout.{axes, isOf, shapeSet, low, hasShape, hasOnly}
+use Rattle.integers.proofs.Sets.{only-held}
+use Rattle.sheet.specs.Layout.{axes, shapeSet, low, hasShape, hasOnly}
 use Rattle.sheet.specs.Allowed.{roomsHold, inRanges, forbidFrom, forbidTo, pairForbids, shapesForbid, setForbids, forbidden, allowed}
 use Rattle.sheet.specs.Placement.{rowFixed, fixed, pointOf, good}
 use Rattle.sheet.specs.Accepted.{Table}
-use Rattle.sheet.proofs.Forbidden.{axis, allowed-parts, allowed-by, pair-at, pair-by, shapes-by, shapes-parts, set-by, set-parts}
+use Rattle.sheet.proofs.Forbidden.{axis, allowed-parts, allowed-by, pair-at, pair-by, shapes-by, shapes-parts, set-one}
 use Rattle.sheet.proofs.Forbidden.{Forbids, forbidden-by, forbidden-parts}
 use Rattle.sheet.proofs.Coordinates.{Agree}
 use Rattle.sheet.proofs.Exchange.{at-point, exchange}
@@ -32,17 +32,9 @@ module _ (block t : List ℤ) where
   unfolding hasShape hasOnly
   held {i} {s} o = only-held (shapeSet block t i) s (o .only)
 
-  same : {i s x : ℕ} → SoleShape block t i s → hasOnly block t i x ≡ true → x ≡ s
-  unfolding hasOnly
-  same {i} {x} o e = same-only (shapeSet block t i) (o .only) (only-held (shapeSet block t i) x e)
-
   pub sole-set : {j s' : ℕ} → SoleShape block t j s' → (r i s : ℕ) (p : List ℤ)
       → shapesForbid block t r p i s j s' ≡ setForbids block t r p i s j
-  sole-set {j} {s'} o r i s p =
-      both-ways _ _
-      (λ e. set-by block t r i s j p (record { shape = s'; from = o .from; upto = o .upto; only = o .only; forbids = e }))
-      (λ e. let w = set-parts block t r i s j p e in
-      subst (λ (x : ℕ). shapesForbid block t r p i s j x ≡ true) (same o (w .only)) (w .forbids))
+  sole-set {j} {s'} o r i s p = set-one block t r i s j s' p (o .upto) (o .only)
 
   -- ---- a row before i
   before-by : (i s : ℕ) (p : List ℤ) (f : Forbids block t i s p) → f .other < i → forbiddenBefore block t i s p ≡ true
@@ -111,8 +103,7 @@ module _ (block t : List ℤ) where
     later {i} row c f d l =
         let r = f .rule in
         let j = f .other in
-        let x = set-parts block t r i (c .shape) j (c .point) (f .set) in
-        let y = shapes-parts block t r i (c .shape) j (x .shape) (c .point) (x .forbids) in
+        let y = shapes-parts block t r i (c .shape) j (d .shape) (c .point) (sole-set (d .sole) r i (c .shape) (c .point) ∙ f .set) in
         let other : Row block t j = record { from = f .from; upto = f .upto } in
         let swap = exchange block t r i (y .own) j (y .other) (still block t all-fixed i row) (still block t all-fixed j other) in
         before-by j (d .shape) (d .point) (record {
@@ -125,22 +116,17 @@ module _ (block t : List ℤ) where
           names = f .names-other;
           another = λ q. f .another (sym q);
           names-other = f .names;
-          set = set-by block t r j (d .shape) i (d .point) (record {
-            shape = c .shape;
-            from = c .sole .from;
-            upto = c .sole .upto;
-            only = c .sole .only;
-            forbids = shapes-by block t r j (d .shape) i (c .shape) (d .point) (record {
-              own = y .other;
-              other = y .own;
-              own-below = y .other-below;
-              other-below = y .own-below;
-              own-is = subst (λ (z : ℕ). isOf block (y .other) z ≡ true) (same (d .sole) (x .only)) (y .other-is);
-              other-is = y .own-is;
-              pair = pair-agree r j (y .other) i (y .own) (pointOf block t j) (d .point) (from-origin d)
-                  (sym swap ∙ pair-agree r i (y .own) j (y .other) (c .point) (pointOf block t i) (at-origin c) (y .pair));
-            });
-          });
+          set = sym (sole-set (c .sole) r j (d .shape) (d .point))
+              ∙ shapes-by block t r j (d .shape) i (c .shape) (d .point) (record {
+                own = y .other;
+                other = y .own;
+                own-below = y .other-below;
+                other-below = y .own-below;
+                own-is = y .other-is;
+                other-is = y .own-is;
+                pair = pair-agree r j (y .other) i (y .own) (pointOf block t j) (d .point) (from-origin d)
+                    (sym swap ∙ pair-agree r i (y .own) j (y .other) (c .point) (pointOf block t i) (at-origin c) (y .pair));
+              });
         }) l
 
     module _ (all : (i : ℕ) → Row block t i → Clear block t i) where

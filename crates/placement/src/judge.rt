@@ -45,7 +45,7 @@ fn row_forbids(
     if !clash::hulls_clash(block, table, outline, r, s, j, t, p) {
         return false;
     }
-    let x = row::set_region(block, table, outline, r, s, j, p);
+    let x = row::shapes_region(block, table, outline, r, s, j, t, p);
     x.hit
 }
 

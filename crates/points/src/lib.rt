@@ -6,7 +6,7 @@ ghost use Prim.Native.Nat.{ℕ, _<_, _≤_};
 ghost use lib.ListN.{length};
 ghost use Rattle.integers.specs.Integer.{within};
 ghost use Rattle.integers.specs.Words.{word};
-ghost use Rattle.points.specs.Area.{coordinates, maxZ, minZ, areaBy, inArea, CutTo, Cuts, fieldArea};
+ghost use Rattle.points.specs.Area.{coordinates, maxZ, minZ, areaBy, inArea, Small, CutTo, Cuts, fieldArea};
 
 // How many coordinates an array of a point holds.
 pub const COORDINATES: usize = sheet::AXES;
@@ -71,6 +71,22 @@ impl Area {
         let b = self.high[d];
         self.high[d] = lesser(b, high);
         self
+    }
+
+    // The points that another area holds too, in the first k dimensions.
+    pub fn common(self, k: usize, other: Area) -> Self
+        requires { ⌜ (k ≤ coordinates) × Small other ⌝ }
+        ensures { λ r. ⌜ Cuts k self r (inArea k other) ⌝ }
+    {
+        let low = other.low;
+        let high = other.high;
+        let mut area = self;
+        let mut d = 0;
+        while d < k {
+            area = area.within(d, low[d], high[d]);
+            d += 1;
+        }
+        area
     }
 
     // Whether the area holds p, in the first k dimensions.

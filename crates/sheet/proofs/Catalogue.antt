@@ -1,7 +1,7 @@
 -- MISSION DEMAND 2, first half: a fixed placement is good exactly when the catalogue's non-overlap holds of each two rows that a
 -- kind 1 rule names, and every room rule holds (`good-is-catalogue`, and `demand-2` for every placement that is not refused).
 -- Assumes nothing.
-use mathlib.Core.Path.{_≡_, ap, _∙_}
+use mathlib.Core.Path.{_≡_, sym, ap, _∙_}
 use mathlib.Core.Logic.{_⊎_, inl, inr, ⊎-elim}
 use mathlib.Core.Bool.{Bool, true, false, not, _&&_}
 use mathlib.Core.List.{List}
@@ -16,13 +16,13 @@ use Rattle.integers.proofs.Below.{all-at, at-all, upto-at, at-upto, below-or}
 use Rattle.integers.proofs.Ints.{ints}
 use Rattle.integers.proofs.Sets.{only-held}
 use Rattle.sheet.specs.Layout.{boxes, rules, isOf, isNonOverlap, namesRow, rows, shapeSet, hasShape, hasOnly}
-use Rattle.sheet.specs.Allowed.{roomsHold, inRanges, forbidden, allowed}
+use Rattle.sheet.specs.Allowed.{roomsHold, inRanges, shapesForbid, setForbids, forbidden, allowed}
 use Rattle.sheet.specs.Placement.{fixed, pointOf, good, boxesClear, noOverlap, noneOverlap, allContained, catalogueGood}
 use Rattle.sheet.specs.Refusal.{_when_, notFixed, refusal, refusalPlacement}
 use Rattle.sheet.proofs.Accepted.{when-zero, else-zero}
-use Rattle.sheet.proofs.Forbidden.{allowed-parts, allowed-by, ranges-by, Pair, shapes-by, shapes-parts, OneShape, set-by}
-use Rattle.sheet.proofs.Forbidden.{set-parts, Forbids, forbidden-by, forbidden-parts}
-use Rattle.sheet.proofs.Fixed.{Row, still, only}
+use Rattle.sheet.proofs.Forbidden.{allowed-parts, allowed-by, ranges-by, Pair, shapes-by, shapes-parts, set-one}
+use Rattle.sheet.proofs.Forbidden.{Forbids, forbidden-by, forbidden-parts}
+use Rattle.sheet.proofs.Fixed.{Row, still, one, only}
 use Rattle.sheet.proofs.Exchange.{at-point, pair-not-clear, boxes-clear-comm}
 
 module _ (block : List ℤ) (table : List ℤ) where
@@ -53,6 +53,10 @@ module _ (block : List ℤ) (table : List ℤ) where
         box-first = w .box-second;
         box-second = w .box-first;
       }
+
+  by-one : (r i j s s' : ℕ) → s' ≤ 32 → hasOnly block table j s' ≡ true
+      → shapesForbid block table r (pointOf block table i) i s j s' ≡ setForbids block table r (pointOf block table i) i s j
+  by-one r i j s s' = set-one block table r i s j s' (pointOf block table i)
 
   abbrev contained : ℕ → ℕ → Bool
   contained i s = hasShape block table i s ⇒ roomsHold block i s (pointOf block table i)
@@ -96,21 +100,16 @@ module _ (block : List ℤ) (table : List ℤ) where
                 names = w .names-first;
                 another = λ z. different z;
                 names-other = w .names-second;
-                set = set-by block table r i s j (pointOf block table i) (record {
-                  shape = s';
-                  from = w .shape-second .0;
-                  upto = w .shape-second .1;
-                  only = only block table all-fixed j s' (w .second) (w .shape-second .2);
-                  forbids = shapes-by block table r i s j s' (pointOf block table i) (record {
-                    own = b;
-                    other = c;
-                    own-below = w .box-first .0;
-                    other-below = w .box-second .0;
-                    own-is = w .box-first .1;
-                    other-is = w .box-second .1;
-                    pair = pair-not-clear block table r i b j c (still block table all-fixed j (w .second)) ∙ ap not e;
-                  });
-                });
+                set = sym (by-one r i j s s' (w .shape-second .1) (only block table all-fixed j s' (w .second) (w .shape-second .2)))
+                    ∙ shapes-by block table r i s j s' (pointOf block table i) (record {
+                      own = b;
+                      other = c;
+                      own-below = w .box-first .0;
+                      other-below = w .box-second .0;
+                      own-is = w .box-first .1;
+                      other-is = w .box-second .1;
+                      pair = pair-not-clear block table r i b j c (still block table all-fixed j (w .second)) ∙ ap not e;
+                    });
               }
             where
               different : i ≡ j → ⊥
@@ -172,7 +171,7 @@ module _ (block : List ℤ) (table : List ℤ) where
       free : (i s : ℕ) → Row block table i → 1 ≤ s → s ≤ 32 → hasShape block table i s ≡ true → Forbids block table i s (pointOf block table i) → ⊥
       unfolding hasShape hasOnly
       free i s h l u t f =
-          ⊎-elim (λ less. contra (clear-pair r i j s (o .shape) (q .own) (q .other) less two)) (λ more. later (below-or j i) more) (below-or i j)
+          ⊎-elim (λ less. contra (clear-pair r i j s (o .0) (q .own) (q .other) less two)) (λ more. later (below-or j i) more) (below-or i j)
         where
           r : ℕ
           r = f .rule
@@ -180,16 +179,17 @@ module _ (block : List ℤ) (table : List ℤ) where
           j : ℕ
           j = f .other
 
-          o : OneShape block table r (pointOf block table i) i s j
-          o = set-parts block table r i s j (pointOf block table i) (f .set)
-
-          q : Pair block table r (pointOf block table i) i s j (o .shape)
-          q = shapes-parts block table r i s j (o .shape) (pointOf block table i) (o .forbids)
-
           other : Row block table j
           other = record { from = f .from; upto = f .upto }
 
-          two : Two r i j s (o .shape) (q .own) (q .other)
+          -- the one shape of row j
+          o : (s' : ℕ) × (1 ≤ s') × (s' ≤ 32) × (hasOnly block table j s' ≡ true)
+          o = one block table all-fixed j other
+
+          q : Pair block table r (pointOf block table i) i s j (o .0)
+          q = shapes-parts block table r i s j (o .0) (pointOf block table i) (by-one r i j s (o .0) (o .2) (o .3) ∙ f .set)
+
+          two : Two r i j s (o .0) (q .own) (q .other)
           two =
               record {
                 rule = f .rule-below;
@@ -199,7 +199,7 @@ module _ (block : List ℤ) (table : List ℤ) where
                 names-first = f .names;
                 names-second = f .names-other;
                 shape-first = (l, u, t);
-                shape-second = (o .from, o .upto, only-held (shapeSet block table j) (o .shape) (o .only));
+                shape-second = (o .1, o .2, only-held (shapeSet block table j) (o .0) (o .3));
                 box-first = (q .own-below, q .own-is);
                 box-second = (q .other-below, q .other-is);
               }
@@ -210,7 +210,7 @@ module _ (block : List ℤ) (table : List ℤ) where
           later : (j < i) ⊎ (i ≤ j) → j ≤ i → ⊥
           later (inl less) more =
               contra (boxes-clear-comm block table r i (q .own) j (q .other)
-              ∙ clear-pair r j i (o .shape) s (q .other) (q .own) less (swapped r i j s (o .shape) (q .own) (q .other) two))
+              ∙ clear-pair r j i (o .0) s (q .other) (q .own) less (swapped r i j s (o .0) (q .own) (q .other) two))
           later (inr l) more = f .another (omega arith)
 
       in-ranges : (i : ℕ) → Row block table i → inRanges block table i (pointOf block table i) ≡ true

@@ -12,7 +12,7 @@ use Rattle.integers.specs.Below.{_⇒_}
 use Rattle.integers.specs.Words.{word}
 use Rattle.integers.proofs.Below.{all-same, any-same}
 use Rattle.sheet.specs.Layout.{axes, offset, size, isOf, isNonOverlap, isContainment, roomLow, roomHigh, namesDim}
-use Rattle.sheet.specs.Layout.{namesRow, low, high, hasShape, hasOnly}
+use Rattle.sheet.specs.Layout.{namesRow, low, high, hasShape}
 use Rattle.sheet.specs.Allowed.{boxContained, roomsHold, inRanges, forbidFrom, forbidTo, pairForbids, shapesForbid}
 use Rattle.sheet.specs.Allowed.{setForbids, rowForbids, forbidden, allowed}
 use Rattle.sheet.specs.Narrow.{rowAllowed}
@@ -57,7 +57,7 @@ module _ (block : List ℤ) (table : List ℤ) where
     unfolding rowForbids setForbids
     row-agree r i s j =
         ap (λ (x : Bool). not (eqb i j) && namesRow block r j && x)
-        (any-same (λ m l. ap (λ (x : Bool). hasOnly block table j (suc m) && x) (shapes-agree r i s j (suc m))))
+        (all-same (λ m l. ap (λ (x : Bool). hasShape block table j (suc m) ⇒ x) (shapes-agree r i s j (suc m))))
 
     pub forbidden-agree : (i s : ℕ) → forbidden block table i s p ≡ forbidden block table i s q
     unfolding forbidden

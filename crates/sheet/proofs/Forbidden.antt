@@ -1,18 +1,21 @@
 -- What is allowed and what is forbidden, taken apart and put together: a point is forbidden by a rule and another row (`Forbids`),
--- by the other row's one shape, and by a pair of boxes (`Pair`). Every other proof cites these laws and not the definitions.
+-- by every shape of the other row's set, each by a pair of boxes (`Pair`). Every other proof cites these laws and not the definitions.
 -- Assumes nothing.
-use mathlib.Core.Path.{_≡_, ap}
-use mathlib.Core.Bool.{true, false, not, _&&_}
+use mathlib.Core.Path.{_≡_, sym, ap, subst}
+use mathlib.Core.Bool.{Bool, true, false, not}
 use mathlib.Core.List.{List}
 use Prim.Native.Nat.{ℕ, _≤_, _<_}
 use lib.IntN.{ℤ}
 use lib.Signed.{_≤ℤ_}
 use borrow.Author.Tests.{eqb-false, ne-eqb}
+use Rattle.integers.specs.Below.{_⇒_}
 use Rattle.integers.specs.Words.{word}
-use Rattle.integers.proofs.Booleans.{and-true, true-and, implies-true, true-implies, not-true, fails}
-use Rattle.integers.proofs.Below.{all-at, at-all, any-at, any-true, some-upto, upto-some}
+use Rattle.integers.proofs.Booleans.{and-true, true-and, implies-true, true-implies, not-true, fails, both-ways}
+use Rattle.integers.proofs.Below.{all-at, at-all, any-at, any-true, upto-at, at-upto, some-upto, upto-some}
 use Rattle.integers.proofs.Ints.{within-true, true-within}
-use Rattle.sheet.specs.Layout.{dims, axes, boxes, rules, isOf, isNonOverlap, namesDim, namesRow, rows, low, high, hasOnly}
+use Rattle.integers.proofs.Sets.{member-ge-1, only-held, same-only}
+use Rattle.sheet.specs.Layout.{dims, axes, boxes, rules, isOf, isNonOverlap, namesDim, namesRow, rows, shapeSet, low, high}
+use Rattle.sheet.specs.Layout.{hasShape, hasOnly}
 use Rattle.sheet.specs.Allowed.{roomsHold, inRanges, forbidFrom, forbidTo, pairForbids, shapesForbid, setForbids}
 use Rattle.sheet.specs.Allowed.{rowForbids, forbidden, allowed}
 
@@ -84,25 +87,29 @@ module _ (block : List ℤ) (table : List ℤ) where
       record { own = b .0; other = c .0; own-below = b .1; other-below = c .1; own-is = b2 .0; other-is = c2 .0; pair = c2 .1 }
 
   -- ---- the other row's set
-  pub record OneShape (r : ℕ) (p : List ℤ) (i s j : ℕ) : Type 0 where
-    pub shape : ℕ
-    pub from : 1 ≤ shape
-    pub upto : shape ≤ 32
-    pub only : hasOnly block table j shape ≡ true
-    pub forbids : shapesForbid block table r p i s j shape ≡ true
+  abbrev set-test : ℕ → List ℤ → ℕ → ℕ → ℕ → ℕ → Bool
+  set-test r p i s j s' = hasShape block table j s' ⇒ shapesForbid block table r p i s j s'
 
-  pub set-by : (r i s j : ℕ) (p : List ℤ) → OneShape r p i s j → setForbids block table r p i s j ≡ true
+  pub set-by : (r i s j : ℕ) (p : List ℤ)
+      → ((s' : ℕ) → s' ≤ 32 → hasShape block table j s' ≡ true → shapesForbid block table r p i s j s' ≡ true)
+      → setForbids block table r p i s j ≡ true
   unfolding setForbids
-  set-by r i s j p f =
-      upto-some (λ x. hasOnly block table j x && shapesForbid block table r p i s j x) (f .shape) (f .from) (f .upto)
-      (true-and (f .only) (f .forbids))
+  set-by r i s j p f = at-upto (set-test r p i s j) (λ s' h k. true-implies (f s' k))
 
-  pub set-parts : (r i s j : ℕ) (p : List ℤ) → setForbids block table r p i s j ≡ true → OneShape r p i s j
-  unfolding setForbids
-  set-parts r i s j p e =
-      let w = some-upto (λ x. hasOnly block table j x && shapesForbid block table r p i s j x) e in
-      let u = and-true (w .3) in
-      record { shape = w .0; from = w .1; upto = w .2; only = u .0; forbids = u .1 }
+  pub set-at : (r i s j : ℕ) (p : List ℤ) → setForbids block table r p i s j ≡ true
+      → (s' : ℕ) → s' ≤ 32 → hasShape block table j s' ≡ true → shapesForbid block table r p i s j s' ≡ true
+  unfolding setForbids hasShape
+  set-at r i s j p e s' k held = implies-true (upto-at (set-test r p i s j) e s' (member-ge-1 (shapeSet block table j) held) k) held
+
+  -- a set with one shape forbids what that shape does
+  pub set-one : (r i s j s' : ℕ) (p : List ℤ) → s' ≤ 32 → hasOnly block table j s' ≡ true
+      → shapesForbid block table r p i s j s' ≡ setForbids block table r p i s j
+  unfolding hasShape hasOnly
+  set-one r i s j s' p k only =
+      both-ways _ _
+      (λ e. set-by r i s j p (λ x l held. subst (λ (y : ℕ). shapesForbid block table r p i s j y ≡ true)
+      (sym (same-only (shapeSet block table j) only held)) e))
+      (λ e. set-at r i s j p e s' k (only-held (shapeSet block table j) s' only))
 
   -- ---- a rule and another row
   pub record Forbids (i s : ℕ) (p : List ℤ) : Type 0 where
@@ -145,3 +152,24 @@ module _ (block : List ℤ) (table : List ℤ) where
         names-other = j1 .1;
         set = j2 .1;
       }
+
+-- ---- what each pair of boxes forbids under rule r in table t, it forbids under rule q in table u: so do shapes, and so does a set that holds
+-- no other shapes
+module _ (block t u : List ℤ) (r q i s j : ℕ) (p : List ℤ)
+    (pairs : (b c : ℕ) → pairForbids block t r p i b j c ≡ true → pairForbids block u q p i b j c ≡ true) where
+  shapes-carry : (s' : ℕ) → shapesForbid block t r p i s j s' ≡ true → shapesForbid block u q p i s j s' ≡ true
+  shapes-carry s' e =
+      let w = shapes-parts block t r i s j s' p e in
+      shapes-by block u q i s j s' p (record {
+        own = w .own;
+        other = w .other;
+        own-below = w .own-below;
+        other-below = w .other-below;
+        own-is = w .own-is;
+        other-is = w .other-is;
+        pair = pairs (w .own) (w .other) (w .pair);
+      })
+
+  pub set-carries : ((s' : ℕ) → hasShape block u j s' ≡ true → hasShape block t j s' ≡ true)
+      → setForbids block t r p i s j ≡ true → setForbids block u q p i s j ≡ true
+  set-carries held e = set-by block u q i s j p (λ s' k h. shapes-carry s' (set-at block t r i s j p e s' k (held s' h)))

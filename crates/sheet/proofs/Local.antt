@@ -9,17 +9,17 @@ use mathlib.Core.Option.{Option, some}
 use Prim.Native.Nat.{ℕ, _≤_, _<_}
 use lib.IntN.{ℤ}
 use lib.Signed.{_≤ℤ_}
-use Rattle.integers.specs.Bits.{holds, holdsOnly}
+use Rattle.integers.specs.Bits.{holds}
 use Rattle.integers.specs.Words.{word}
 use Rattle.integers.proofs.Booleans.{clash}
 use Rattle.integers.proofs.Below.{same-or}
-use Rattle.sheet.specs.Layout.{dims, axes, rules, isNonOverlap, namesRow, rows, shapeSet, low, high, hasShape, hasOnly}
+use Rattle.sheet.specs.Layout.{dims, axes, rules, isNonOverlap, namesRow, rows, shapeSet, low, high, hasShape}
 use Rattle.sheet.specs.Allowed.{inRanges, forbidFrom, forbidTo, setForbids, forbidden, allowed}
 use Rattle.sheet.specs.Narrow.{Stands, Narrowed, Narrows, narrowed, narrowOf}
 use Rattle.sheet.specs.Accepted.{Table}
 use Rattle.sheet.proofs.Accepted.{rows-same}
-use Rattle.sheet.proofs.Forbidden.{axis, allowed-parts, allowed-by, in-range, ranges-by, pair-at, pair-by, shapes-parts}
-use Rattle.sheet.proofs.Forbidden.{shapes-by, set-parts, set-by, Forbids, forbidden-parts, forbidden-by}
+use Rattle.sheet.proofs.Forbidden.{axis, allowed-parts, allowed-by, in-range, ranges-by, pair-at, pair-by, set-carries}
+use Rattle.sheet.proofs.Forbidden.{Forbids, forbidden-parts, forbidden-by}
 use Rattle.sheet.proofs.Rows.{set-other, low-other, high-other}
 use Rattle.sheet.proofs.Narrows.{narrow-finds}
 use Rattle.sheet.proofs.NarrowsOnce.{narrow-is}
@@ -41,33 +41,17 @@ module _ (block : List ℤ) where
     unfolding forbidTo
     to-same r i b c d l = rw (same .lows d (axis block l))
 
-    only-same : (s : ℕ) → hasOnly block t j s ≡ hasOnly block u j s
-    unfolding hasOnly
-    only-same s = ap (λ (z : ℤ). holdsOnly z s) (same .set)
+    held-same : (s : ℕ) → hasShape block t j s ≡ hasShape block u j s
+    unfolding hasShape
+    held-same s = ap (λ (z : ℤ). holds z s) (same .set)
 
     set-same : (r : ℕ) (p : List ℤ) (i s : ℕ) → setForbids block t r p i s j ≡ true → setForbids block u r p i s j ≡ true
-    set-same r p i s e =
-        let o = set-parts block t r i s j p e in
-        let q = shapes-parts block t r i s j (o .shape) p (o .forbids) in
-        set-by block u r i s j p (record {
-          shape = o .shape;
-          from = o .from;
-          upto = o .upto;
-          only = sym (only-same (o .shape)) ∙ o .only;
-          forbids = shapes-by block u r i s j (o .shape) p (record {
-            own = q .own;
-            other = q .other;
-            own-below = q .own-below;
-            other-below = q .other-below;
-            own-is = q .own-is;
-            other-is = q .other-is;
-            pair = pair-by block u r i (q .own) j (q .other) p (λ d l n.
-                let w = pair-at block t r i (q .own) j (q .other) d p (q .pair) l n in (
-                  subst (λ (z : ℤ). z ≤ℤ word p d) (from-same r i (q .own) (q .other) d l) (w .0),
-                  subst (λ (z : ℤ). word p d ≤ℤ z) (to-same r i (q .own) (q .other) d l) (w .1),
-                ));
-          });
-        })
+    set-same r p i s =
+        set-carries block t u r r i s j p
+        (λ b c e. pair-by block u r i b j c p (λ d l n.
+        let w = pair-at block t r i b j c d p e l n in
+        (subst (λ (z : ℤ). z ≤ℤ word p d) (from-same r i b c d l) (w .0), subst (λ (z : ℤ). word p d ≤ℤ z) (to-same r i b c d l) (w .1))))
+        (λ s' h. held-same s' ∙ h)
 
   -- row i forbids row j no point of its ranges
   pub record Harmless (t : List ℤ) (i j : ℕ) : Type 0 where
@@ -112,14 +96,10 @@ module _ (block : List ℤ) where
               clash (subst (λ (x : ℕ). setForbids block v (f .rule) p j s x ≡ true) q (f .set))
               (harmless (λ z. f .another (z ∙ sym q)) .spares (f .rule) s p (f .rule-below) (f .kind) names-i (f .names) held ranged)
 
-      shape-same : (s : ℕ) → hasShape block v j s ≡ hasShape block w j s
-      unfolding hasShape
-      shape-same s = ap (λ (z : ℤ). holds z s) (same .set)
-
       -- where row j is allowed in t, it is allowed in v
       module _ (s : ℕ) (p : List ℤ) (held : hasShape block t j s ≡ true) (e : allowed block t j s p ≡ true) where
         held-still : hasShape block v j s ≡ true
-        held-still = shape-same s ∙ m .shapes s .1 (held, (p, e))
+        held-still = held-same v w j same s ∙ m .shapes s .1 (held, (p, e))
 
         ranged-still : inRanges block v j p ≡ true
         ranged-still =
@@ -153,7 +133,7 @@ module _ (block : List ℤ) where
                 record { point = r .point; there = r .there ∙ sym (same .highs d l); by = stands-still (r .point) (r .by) };
             bounds = λ p st d l. in-range block v j d p (allowed-parts block v j (st .shape) p (st .stands) .0) l;
             shapes = λ s. (
-              λ e. let x = m .shapes s .0 (sym (shape-same s) ∙ e) in (e, (x .1 .0, allowed-still s (x .1 .0) (x .0) (x .1 .1))),
+              λ e. let x = m .shapes s .0 (sym (held-same v w j same s) ∙ e) in (e, (x .1 .0, allowed-still s (x .1 .0) (x .0) (x .1 .1))),
               λ x. x .0,
             );
           }

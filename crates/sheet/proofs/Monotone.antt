@@ -1,5 +1,5 @@
--- MONOTONE: what is allowed in a table is allowed in every table that it lies inside, where each row of the inner table has a
--- shape (`still-allowed`): smaller ranges and sets forbid more. Assumes nothing.
+-- MONOTONE: what is allowed in a table is allowed in every table that it lies inside (`still-allowed`): smaller ranges and sets forbid more.
+-- Assumes nothing.
 use mathlib.Core.Path.{_≡_, sym, subst}
 use mathlib.Core.Bool.{true}
 use mathlib.Core.List.{List}
@@ -8,29 +8,19 @@ use lib.IntN.{ℤ, pos}
 use lib.Signed.{_≤ℤ_}
 use Rattle.integers.proofs.Booleans.{clash}
 use Rattle.integers.proofs.Ints.{ints, v, _⊕_, _⊖_, lin, ≤ℤ-trans}
-use Rattle.integers.proofs.Sets.{only-of, same-only}
-use Rattle.sheet.specs.Layout.{dims, offset, size, clearance, rows, shapeSet, low, high, hasShape, hasOnly}
+use Rattle.sheet.specs.Layout.{dims, offset, size, clearance, rows, low, high}
 use Rattle.sheet.specs.Allowed.{inRanges, forbidFrom, forbidTo, pairForbids, setForbids, forbidden, allowed}
 use Rattle.sheet.specs.Settle.{Inside}
 use Rattle.sheet.proofs.Accepted.{rows-same}
-use Rattle.sheet.proofs.Forbidden.{axis, allowed-parts, allowed-by, in-range, ranges-by, pair-at, pair-by, shapes-parts}
-use Rattle.sheet.proofs.Forbidden.{shapes-by, set-parts, set-by, forbidden-parts, forbidden-by}
+use Rattle.sheet.proofs.Forbidden.{axis, allowed-parts, allowed-by, in-range, ranges-by, pair-at, pair-by, set-carries}
+use Rattle.sheet.proofs.Forbidden.{forbidden-parts, forbidden-by}
 
-module _ (block : List ℤ) (u t : List ℤ) (inside : Inside block u t)
-    (alive : (j : ℕ) → 1 ≤ j → j ≤ rows block t → (s : ℕ) × (hasShape block u j s ≡ true)) where
+module _ (block : List ℤ) (u t : List ℤ) (inside : Inside block u t) where
   ranges : (i : ℕ) (p : List ℤ) → 1 ≤ i → i ≤ rows block t → inRanges block u i p ≡ true → inRanges block t i p ≡ true
   ranges i p h k e =
       ranges-by block t i p (λ d l.
       let r = in-range block u i d p e l in
       (≤ℤ-trans (inside .lows i d h k l) (r .0), ≤ℤ-trans (r .1) (inside .highs i d h k l)))
-
-  -- the one shape of a set stays the one shape
-  only : (j s : ℕ) → 1 ≤ j → j ≤ rows block t → hasOnly block t j s ≡ true → hasOnly block u j s ≡ true
-  unfolding hasShape hasOnly
-  only j s h k e =
-      let one : (x : ℕ) → hasShape block u j x ≡ true → x ≡ s = λ x y. same-only (shapeSet block t j) e (inside .shapes j x h k y) in
-      let w = alive j h k in
-      only-of (shapeSet block u j) s (subst (λ (x : ℕ). hasShape block u j x ≡ true) (one (w .0) (w .1)) (w .1)) one
 
   -- a smaller range forbids more
   from-less : (r i b j c d : ℕ) → 1 ≤ j → j ≤ rows block t → d < dims block → forbidFrom block u r i b j c d ≤ℤ forbidFrom block t r i b j c d
@@ -62,24 +52,7 @@ module _ (block : List ℤ) (u t : List ℤ) (inside : Inside block u t)
       (≤ℤ-trans (from-less r i b j c d h k l) (w .0), ≤ℤ-trans (w .1) (to-more r i b j c d h k l)))
 
   sets : (r : ℕ) (p : List ℤ) (i s j : ℕ) → 1 ≤ j → j ≤ rows block t → setForbids block t r p i s j ≡ true → setForbids block u r p i s j ≡ true
-  sets r p i s j h k e =
-      let o = set-parts block t r i s j p e in
-      let q = shapes-parts block t r i s j (o .shape) p (o .forbids) in
-      set-by block u r i s j p (record {
-        shape = o .shape;
-        from = o .from;
-        upto = o .upto;
-        only = only j (o .shape) h k (o .only);
-        forbids = shapes-by block u r i s j (o .shape) p (record {
-          own = q .own;
-          other = q .other;
-          own-below = q .own-below;
-          other-below = q .other-below;
-          own-is = q .own-is;
-          other-is = q .other-is;
-          pair = pairs r p i (q .own) j (q .other) h k (q .pair);
-        });
-      })
+  sets r p i s j h k = set-carries block t u r r i s j p (λ b c. pairs r p i b j c h k) (λ s' held. inside .shapes j s' h k held)
 
   still-forbidden : (i s : ℕ) (p : List ℤ) → forbidden block t i s p ≡ true → forbidden block u i s p ≡ true
   still-forbidden i s p e =

@@ -34,7 +34,7 @@ module _ (block : List ℤ) where
         record {
           shape = w .shape;
           held = x .shapes i (w .shape) h k (w .held);
-          stands = still-allowed block u t x alive i (w .shape) p h k (w .stands);
+          stands = still-allowed block u t x i (w .shape) p h k (w .stands);
         }
 
     pub settled-table : Table block t → Table block u
@@ -108,7 +108,7 @@ module _ (block : List ℤ) where
           shapes = λ q j h k. here-and-else i (λ (q : ℕ). 1 ≤ q → q ≤ rows block t → hasShape block u q j ≡ true → hasShape block v q j ≡ true)
               (λ h k e.
               let a = s .shapes i j h (rows-of dims u t s x i k) e in
-              n .shapes j .1 (x .shapes i j h k e, (a .0, still-allowed block u t x (alive dims u t s x) i j (a .0) h k (a .1))))
+              n .shapes j .1 (x .shapes i j h k e, (a .0, still-allowed block u t x i j (a .0) h k (a .1))))
               (λ q ne h k e. shape-other block t v i from (n .others) q j h ne ∙ x .shapes q j h k e) q h (row-of q k);
         }
       where

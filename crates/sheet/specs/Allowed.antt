@@ -1,4 +1,5 @@
--- Document 01, "What is allowed", with the clearances of document 02's T-02: the points at which a row may stand with a shape.
+-- Document 01, "What is allowed", with document 02's T-02 (clearances) and T-05 (rows with several shapes): the points at which a row may
+-- stand with a shape.
 -- A point is a list of coordinates, one for each dimension; those from the last dimension on are not read.
 -- Assumes nothing.
 use mathlib.Core.Bool.{Bool, not, _&&_}
@@ -8,10 +9,10 @@ use lib.Dec.{eqb}
 use lib.IntN.{ℤ, pos, _+ℤ_, _-ℤ_}
 use lib.Signed.{leZ}
 use Rattle.integers.specs.Integer.{within}
-use Rattle.integers.specs.Below.{_⇒_, allBelow, anyBelow, anyUpTo}
+use Rattle.integers.specs.Below.{_⇒_, allBelow, anyBelow, allUpTo, anyUpTo}
 use Rattle.integers.specs.Words.{word}
 use Rattle.sheet.specs.Layout.{dims, boxes, rules, axes, offset, size, isOf, isNonOverlap, isContainment, roomLow}
-use Rattle.sheet.specs.Layout.{roomHigh, clearance, namesDim, namesRow, rows, low, high, hasOnly}
+use Rattle.sheet.specs.Layout.{roomHigh, clearance, namesDim, namesRow, rows, low, high, hasShape}
 
 module _ (block : List ℤ) where
   -- ---- rooms (kind 2)
@@ -53,9 +54,9 @@ module _ (block : List ℤ) where
     shapesForbid r p i s j s' =
         anyBelow (boxes block) (λ b. isOf block b s && anyBelow (boxes block) (λ c. isOf block c s' && pairForbids r p i b j c))
 
-    -- row j's set holds exactly one shape s'; a row with several shapes forbids nothing
+    -- every shape s' in row j's set, each by a pair of boxes of its own
     unfoldable pub setForbids : ℕ → List ℤ → ℕ → ℕ → ℕ → Bool
-    setForbids r p i s j = anyUpTo 32 (λ s'. hasOnly block table j s' && shapesForbid r p i s j s')
+    setForbids r p i s j = allUpTo 32 (λ s'. hasShape block table j s' ⇒ shapesForbid r p i s j s')
 
     -- rule r names row j, which is another row than i
     unfoldable pub rowForbids : ℕ → List ℤ → ℕ → ℕ → ℕ → Bool

@@ -16,4 +16,5 @@ pub mod Positions
 pub mod TextPositions
 pub mod RelationPositions
 pub mod ClearancePositions
+pub mod SeveralPositions
 pub mod FillPositions

@@ -1,5 +1,5 @@
--- Document 01's marked positions, in its order, then the sheet of its text program and two more: one that a single pass over the rows
--- gets wrong, and one that 'a row with several shapes forbids too' gets wrong; and the theorem that every case passes. Assumes nothing.
+-- Document 01's marked positions, in its order, then the sheet of its text program, one that a single pass over the rows gets wrong, and
+-- the marked position of document 02's T-05; and the theorem that every case passes. Assumes nothing.
 use mathlib.Core.Bool.{Bool, true, false, not, cond, _&&_}
 use mathlib.Core.List.{List, [], _∷_, _++_, map}
 use mathlib.Core.Option.{Option, none, some}
@@ -191,8 +191,8 @@ positions =
     -- one pass over the rows leaves row 1 at 2..4: row 2 moves after it
     ∷ case (line (2 ∷ []) 1 7) (row 1 (pos 2) (pos 4) ++ row 1 (pos 0) (pos 2) ++ row 1 (pos 0) (pos 0))
     (settles (some (row 1 (pos 4) (pos 4) ++ row 1 (pos 2) (pos 2) ++ row 1 (pos 0) (pos 0))))
-    -- A at 0 with sizes 3 or 4 forbids nothing: B of size 2 in −1..5 has least −1
-    ∷ case (line (3 ∷ 4 ∷ 2 ∷ []) 3 3) (row 3 (pos 0) (pos 0) ++ row 4 (minus 1) (pos 5)) (hasLeast 2 3 (some (minus 1)))
+    -- A at 0 with sizes 3 or 4, B of size 2 in −1..5: least 3
+    ∷ case (line (3 ∷ 4 ∷ 2 ∷ []) 3 3) (row 3 (pos 0) (pos 0) ++ row 4 (minus 1) (pos 5)) (hasLeast 2 3 (some (pos 3)))
     ∷ []
 
 -- THE MARKED POSITIONS: the checker computes that every case passes

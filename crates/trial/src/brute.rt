@@ -1,5 +1,5 @@
-// Document 01's "What is allowed" by definition, with document 02's clearances, and narrowing and settling with every point tried. It shares
-// no code with the kernel.
+// Document 01's "What is allowed" by definition, with document 02's clearances and rows with several shapes, and narrowing and settling with
+// every point tried. It shares no code with the kernel.
 use super::layout;
 use super::layout::RECORD;
 use super::layout::with_word;
@@ -16,7 +16,7 @@ pub const NONE: i64 = -1;
 
 // ---- what is allowed
 
-fn in_ranges(block: &[i64], table: &[i64], i: usize, p: [i64; 4]) -> bool {
+pub(crate) fn in_ranges(block: &[i64], table: &[i64], i: usize, p: [i64; 4]) -> bool {
     let k = layout::dims(block);
     let mut d = 0;
     while d < k
@@ -154,10 +154,15 @@ pub(crate) fn has_one_shape(set: i64) -> bool {
     set == numbers::set_of(last_shape(set))
 }
 
-// Whether row j allows the point. A row with more than one shape forbids nothing.
+// Whether row j allows the point: it does where one of its shapes does.
 fn row_allows(block: &[i64], table: &[i64], r: usize, s: usize, j: usize, p: [i64; 4]) -> bool {
-    let set = layout::shape_set(block, table, j);
-    !has_one_shape(set) || shapes_allow(block, table, r, s, j, last_shape(set), p)
+    let mut s2 = 0;
+    while s2 < 32
+        && (!layout::has_shape(block, table, j, s2) || !shapes_allow(block, table, r, s, j, s2, p))
+    {
+        s2 = s2 + 1;
+    }
+    s2 < 32
 }
 
 // Whether every other row that the rule names allows the point.

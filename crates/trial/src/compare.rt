@@ -7,6 +7,7 @@ use super::findings;
 use super::findings::found;
 use super::generate;
 use super::generate::TABLE;
+use super::inside;
 use super::layout;
 use super::layout::RECORD;
 use super::layout::number;
@@ -343,5 +344,6 @@ pub(crate) fn sheet(
     if g > 0 || kind == plan::LARGER {
         return w;
     }
-    placements(rows(w, block, table), seed, block, table)
+    let x = placements(rows(w, block, table), seed, block, table);
+    inside::placements(x, block, table)
 }

@@ -158,12 +158,12 @@ fn rule_record(seed: &mut usize, p: Plan, r: usize) -> [i64; RECORD] {
     rule_without(seed, p, r)
 }
 
-// A row's shape set: mostly one shape, so that the row forbids.
+// A row's shape set: every second time one shape, which forbids the most, and else any set.
 fn row_shapes(seed: &mut usize, shapes: usize) -> i64 {
     if shapes == 0 {
         return 1;
     }
-    if one_of(seed, 3) {
+    if one_of(seed, 2) {
         return some_set(seed, shapes);
     }
     let s = below(seed, shapes);

@@ -8,6 +8,7 @@ mod edges; // edges.rt: the positions
 mod fills; // fills.rt: the fill of a room
 mod findings; // findings.rt: what brute force finds
 mod generate; // generate.rt: sheets by chance
+mod inside; // inside.rt: good placements and what settling leaves
 mod layout; // layout.rt: the words of a sheet
 mod numbers; // numbers.rt: sums and places
 mod plan; // plan.rt: what the sheets are made of
@@ -102,6 +103,8 @@ fn main() {
     print(b"\nrelations: found ", t.related);
     print(b", kinds ", tally::kinds_of(t));
     print_fills(t);
+    print(b"\ntiny sheets: ", t.tiny);
+    print(b", good placements inside what was settled ", t.inside);
     print_compared(b"\ncomparisons: ", t);
     let l = sheets(plan::LARGER, LARGER, 362436069362436069);
     print_sheets(b"larger sheets: ", l);

@@ -15,7 +15,9 @@ pub struct Tally {
     pub kinds: i64, // the relations that were found, as a set of their numbers
     pub filled: u64, // rules of which a fill was found
     pub shared: u64, // of these, in which two boxes share a cell
-    pub compared: u64, // answers and tables
+    pub tiny: u64, // sheets of which every placement was tried
+    pub inside: u64, // of these placements, the good ones that lie inside what settling left
+    pub compared: u64, // answers, tables and good placements
     pub differ: u64,
 }
 
@@ -38,6 +40,8 @@ impl Tally {
             kinds: 0,
             filled: 0,
             shared: 0,
+            tiny: 0,
+            inside: 0,
             compared: 0,
             differ: 0,
         }
@@ -90,6 +94,17 @@ impl Tally {
         self.filled = and(self.filled, true);
         self.shared = and(self.shared, shared);
         self
+    }
+
+    pub(crate) fn with_tiny(mut self) -> Self {
+        self.tiny = and(self.tiny, true);
+        self
+    }
+
+    // A good placement.
+    pub(crate) fn with_inside(mut self, is_inside: bool) -> Self {
+        self.inside = and(self.inside, is_inside);
+        self.compared(is_inside)
     }
 }
 

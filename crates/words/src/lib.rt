@@ -8,14 +8,15 @@ ghost use Prim.Native.Nat.{_+_, _^_, _<_};
 ghost use lib.ListN.{length};
 ghost use lib.IntN.{pos};
 ghost use Rattle.integers.specs.Integer.{nat, eqZ, within};
-ghost use Rattle.integers.specs.Below.{UpTo};
+ghost use Rattle.integers.specs.Below.{anyUpTo, UpTo};
 ghost use Rattle.integers.specs.Bits.{bit};
 ghost use Rattle.integers.specs.Words.{word};
 ghost use Rattle.sheet.specs.Layout.{dims, axes, boxes, rules, shapeOf, offset, size};
 ghost use Rattle.sheet.specs.Layout.{kind, isNonOverlap, isContainment, dimSet, rowSet, namesDim, namesRow, roomLow, roomHigh, clearance};
-ghost use Rattle.sheet.specs.Layout.{rowLen, rows, shapeSet, hasShape, low, high};
-ghost use Rattle.sheet.specs.Accepted.{Count, Head, Rows};
+ghost use Rattle.sheet.specs.Layout.{rowLen, rows, shapeSet, hasShape, hasOnly, low, high};
+ghost use Rattle.sheet.specs.Accepted.{Count, Head, Rows, Table};
 ghost use Rattle.words.specs.Places.{BoxPlace, RulePlace, RowPlace};
+ghost use Rattle.words.specs.Shapes.{LowestShape};
 
 // A record's number, and where its first word stands.
 pub struct Place {
@@ -328,6 +329,22 @@ pub fn has_shape(block: &[i64], table: &[i64], i: Place, s: usize) -> bool
 {
     let at = i.at;
     bit_at(table, at, s - 1)
+}
+
+// Whether a row's set holds one shape.
+pub fn has_one_shape(block: &[i64], table: &[i64], i: Place) -> bool
+    requires { ⌜ RowPlace (now block) (now table) i
+        × Count (shapeSet (now block) (now table) (i .number)) ⌝ }
+    ensures { λ r. ⌜ r ≡ anyUpTo 32 (hasOnly (now (block .entry)) (now (table .entry)) (i .number)) ⌝ }
+{
+    u32::count_ones(shapes_of(block, table, i)) == 1
+}
+
+pub fn lowest_shape(block: &[i64], table: &[i64], i: Place) -> usize
+    requires { ⌜ Table (now block) (now table) × RowPlace (now block) (now table) i ⌝ }
+    ensures { λ r. ⌜ LowestShape (now (block .entry)) (now (table .entry)) (i .number) r ⌝ }
+{
+    u32::trailing_zeros(shapes_of(block, table, i)) as usize + 1
 }
 
 pub fn low_of(block: &[i64], table: &[i64], i: Place, d: usize) -> i64

@@ -1,179 +1,62 @@
--- `row::shapes_region` meets its contract: so far no pair of boxes forbids the point, and the first that does is the region. Assumes nothing.
-use mathlib.Core.Path.{_≡_, refl, sym, _∙_}
-use mathlib.Core.Logic.{⊎-elim}
-use mathlib.Core.Bool.{false}
-use Prim.Native.Nat.{_<_, _-_}
+-- `row::shapes_region` meets its contract: the pair that was found is the region. Assumes nothing.
+use mathlib.Core.Path.{refl, sym, _∙_}
 use native.Mathlib.Omega.{arith}
 use denote.Ref.{now}
-use Rattle.sheet.specs.Layout.{boxes}
 use Rattle.sheet.proofs.Forbidden.{shapes-by}
-use Rattle.outline.proofs.Solids.{shape-few}
-use Rattle.forbid.specs.Pair.{PairPlaces}
-use Rattle.forbid.specs.Region.{noRegion}
-use Rattle.forbid.proofs.Solids.{forbidsTo, solids-boxes, hull-box-places, box-places}
+use Rattle.forbid.specs.Region.{PairAt}
+use Rattle.forbid.proofs.Solids.{solids-boxes, box-places}
 use Rattle.forbid.proofs.Regions.{cut-region, missed, forbids-by}
-use Rattle.forbid.proofs.Chains.{Walk, walk-first, walk-next, walk-over, ClearOf, clear-hull, all-clear}
 use Rattle.forbid.proofs.row.shapes_region.Statement.{statement}
 use Rattle.forbid.proofs.row.shapes_region.Tie as tie
 
-abbrev Inv-loop : tie.InvT-loop
-Inv-loop block table outline r s j t p n hull found₀ other own₀ found own =
-    (found ≡ found₀) × Walk block s own (λ b. forbidsTo block table outline r j b other p ≡ false)
+forbidding-boxes-requires : tie.Need-forbidding-boxes-requires
+forbidding-boxes-requires c κs = c .pre
 
-abbrev μ-loop : tie.MeasureT-loop
-μ-loop block table outline r s j t p n hull found₀ other own₀ found own = n - own
+boxes-of-requires : tie.Need-boxes-of-requires
+boxes-of-requires c κs = c .before .pre .0 .at-point .accepted .head
 
-abbrev Inv-pairs : tie.InvT-pairs
-Inv-pairs block table outline r s j t p n hull found₀ other₀ found other =
-    (found ≡ noRegion) × Walk block t other (ClearOf block table outline r s j p)
-
-abbrev μ-pairs : tie.MeasureT-pairs
-μ-pairs block table outline r s j t p n hull found₀ other₀ found other = n - other
-
--- the box at hand of each walk is one
-module _ (c : tie.In-pairs Inv-loop μ-loop Inv-pairs μ-pairs) where
-  abbrev top : tie.Start Inv-loop μ-loop Inv-pairs μ-pairs
-  top = c .before .before .before .before .before .before
-
-  other-below : c .before .pairs .other < boxes (now (top .args .block))
-  other-below = omega (arith, c .before .before .before .before .before .boxes-of .ensures, c .pairs-test .taken)
-
-module _ (c : tie.In-loop Inv-loop μ-loop Inv-pairs μ-pairs) where
-  abbrev out : tie.In-pairs Inv-loop μ-loop Inv-pairs μ-pairs
-  out = c .before .before .before .before .before
-
-  own-below : c .before .loop .own < boxes (now (top out .args .block))
-  own-below = omega (arith, out .before .before .before .before .before .boxes-of .ensures, c .loop-test .taken)
-
-  places : PairPlaces (now (top out .args .block)) (now (top out .args .table)) (now (top out .args .outline))
-      (record { r = top out .args .r; own = c .before .loop .own; j = top out .args .j; other = out .before .pairs .other })
-  places =
-      let w = top out .pre .0 in
-      box-places (w .at-point .accepted) (w .at-point .table) (w .at-point .outline) (w .rule) (w .row) own-below (other-below out)
-
-boxes-of-requires : tie.Need-boxes-of-requires Inv-loop μ-loop Inv-pairs μ-pairs
-boxes-of-requires c κs = c .pre .0 .at-point .accepted .head
-
-hull-of-requires : tie.Need-hull-of-requires Inv-loop μ-loop Inv-pairs μ-pairs
-hull-of-requires c κs = let w = c .before .pre .0 .at-point in shape-few (w .accepted) (w .own)
-
-none-requires : tie.Need-none-requires Inv-loop μ-loop Inv-pairs μ-pairs
+none-requires : tie.Need-none-requires
 none-requires c κs = tt
 
-first-of-requires : tie.Need-first-of-requires Inv-loop μ-loop Inv-pairs μ-pairs
-first-of-requires c κs =
-    let s = c .before .before .before in
-    let w = s .pre .0 .at-point in
-    (w .outline .chained, shape-few (w .accepted) (s .pre .1))
-
-pairs-holds : tie.Need-pairs-holds Inv-loop μ-loop Inv-pairs μ-pairs
-pairs-holds c = (c .before .none .ensures, walk-first (c .first-of .ensures))
-
-pair-forbids-requires : tie.Need-pair-forbids-requires Inv-loop μ-loop Inv-pairs μ-pairs
-pair-forbids-requires c κs =
-    let w = top c .pre .0 in
-    let a = w .at-point in
-    let hull = c .before .before .before .before .hull-of .ensures in
-    hull-box-places (a .accepted) (a .table) (a .outline) (w .rule) (w .row) hull (a .own) (other-below c)
-
-first-of-requires-2 : tie.Need-first-of-requires-2 Inv-loop μ-loop Inv-pairs μ-pairs
-first-of-requires-2 c κs = let w = top (c .before .before) .pre .0 .at-point in (w .outline .chained, shape-few (w .accepted) (w .own))
-
-loop-holds : tie.Need-loop-holds Inv-loop μ-loop Inv-pairs μ-pairs
-loop-holds c = (refl, walk-first (c .first-of2 .ensures))
-
-pair-forbids-requires-2 : tie.Need-pair-forbids-requires-2 Inv-loop μ-loop Inv-pairs μ-pairs
-pair-forbids-requires-2 c κs = places c
-
-pair-area-requires : tie.Need-pair-area-requires Inv-loop μ-loop Inv-pairs μ-pairs
-pair-area-requires c κs = places (c .before .before)
-
-after-requires : tie.Need-after-requires Inv-loop μ-loop Inv-pairs μ-pairs
-after-requires c κs =
-    let l = c .before .before in
-    let w = top (out l) .pre .0 .at-point in
-    record { head = w .accepted .head; chained = w .outline .chained; below = own-below l; is = l .before .loop .inv .1 .is (own-below l) }
-
-loop-less : tie.Need-loop-less Inv-loop μ-loop Inv-pairs μ-pairs
-loop-less c = omega (arith, c .after .ensures .0, c .before .before .before .loop-test .taken)
-
-loop-again : tie.Need-loop-again Inv-loop μ-loop Inv-pairs μ-pairs
-loop-again c =
-    let f = c .before .before in
-    let i = f .before .before .loop .inv in
-    (i .0, walk-next (i .1) (sym (f .pair-forbids2 .ensures) ∙ c .before .if2 .left) (c .after .ensures))
-
-after-requires-2 : tie.Need-after-requires-2 Inv-loop μ-loop Inv-pairs μ-pairs
-after-requires-2 c κs =
-    let l = c .before .before in
-    let w = top l .pre .0 .at-point in
-    record { head = w .accepted .head; chained = w .outline .chained; below = other-below l; is = l .before .pairs .inv .1 .is (other-below l) }
-
-pairs-less : tie.Need-pairs-less Inv-loop μ-loop Inv-pairs μ-pairs
-pairs-less c = omega (arith, c .after2 .ensures .0, c .before .before .before .pairs-test .taken)
-
-pairs-again : tie.Need-pairs-again Inv-loop μ-loop Inv-pairs μ-pairs
-pairs-again c =
-    let f = c .before .before in
-    let l = f .before in
-    let i = l .before .pairs .inv in
-    let w = top l .pre .0 .at-point in
-    let h = l .before .before .before .before in (
-      ⊎-elim (λ x. x .4 ∙ x .2 .inv .0 ∙ i .0) (λ x. x .1 ∙ i .0) (c .before .if1 .came),
-      walk-next (i .1)
-          (⊎-elim
-          (λ x. walk-over (x .2 .inv .1) (omega (arith, x .3 .left, h .before .boxes-of .ensures)))
-          (λ x. clear-hull _ _ _ _ _ _ _ (w .outline) _ (h .hull-of .ensures) (w .own) (sym (f .pair-forbids .ensures) ∙ x .0 .left))
-          (c .before .if1 .came))
-          (c .after2 .ensures),
-    )
-
-returns : tie.Need-returns Inv-loop μ-loop Inv-pairs μ-pairs
+returns : tie.Need-returns
 returns c =
-    let l = c .before in
-    let n = l .before .before .before .before in
-    λ i. missed (all-clear _ _ _ _ _ _ _ (n .before .pre .0 .at-point .outline) i
-    (walk-over (l .pairs .inv .1) (omega (arith, n .boxes-of .ensures, c .pairs-test .left)))) (l .pairs .inv .0)
+    let n = c .before .before in
+    λ i. missed (n .before .forbidding-boxes .ensures .none (omega (arith, n .boxes-of .ensures, c .before .if1 .taken)) i) (c .none .ensures)
 
-returns-2 : tie.Need-returns-2 Inv-loop μ-loop Inv-pairs μ-pairs
+-- the pair
+pair-at : (c : tie.Else1) → let f = c .before .before in let a = f .before .args in
+    PairAt (now (a .block)) (now (a .table)) (now (a .outline)) (a .r) (a .s) (a .j) (a .t) (a .p) (f .forbidding-boxes .result)
+pair-at c = c .before .before .forbidding-boxes .ensures .pair (omega (arith, c .before .boxes-of .ensures, c .if1 .left))
+
+pair-area-requires : tie.Need-pair-area-requires
+pair-area-requires c κs =
+    let w = c .before .before .before .pre .0 in
+    let x = pair-at c in
+    box-places (w .at-point .accepted) (w .at-point .table) (w .at-point .outline) (w .rule) (w .row) (x .own-below) (x .other-below)
+
+returns-2 : tie.Need-returns-2
 returns-2 c =
-    let f = c .before .before in
-    let l = f .before in
-    let w = top (out l) .pre .0 .at-point in
-    λ i. forbids-by (λ q e. shapes-by _ _ _ _ _ _ _ q (record {
-      own = l .before .loop .own;
-      other = out l .before .pairs .other;
-      own-below = own-below l;
-      other-below = other-below (out l);
-      own-is = l .before .loop .inv .1 .is (own-below l);
-      other-is = out l .before .pairs .inv .1 .is (other-below (out l));
-      pair = sym (solids-boxes _ _ _ _ _ (w .outline .boxes-of) i (own-below l) (other-below (out l)) q) ∙ e;
+    let e = c .before in
+    let w = e .before .before .before .pre .0 .at-point in
+    let x = pair-at e in
+    λ i. forbids-by (λ q f. shapes-by _ _ _ _ _ _ _ q (record {
+      own = _;
+      other = _;
+      own-below = x .own-below;
+      other-below = x .other-below;
+      own-is = x .own-is;
+      other-is = x .other-is;
+      pair = sym (solids-boxes _ _ _ _ _ (w .outline .boxes-of) i (x .own-below) (x .other-below) q) ∙ f;
     })) refl
-    (cut-region (w .accepted .head .few-axes) (w .near) (sym (f .pair-forbids2 .ensures) ∙ c .before .if2 .taken) (c .pair-area .ensures))
+    (cut-region (w .accepted .head .few-axes) (w .near) (x .forbids) (c .pair-area .ensures))
 
 pub shapes-region-spec : {M : Type 1} → statement M
 shapes-region-spec =
     tie.close
     (tie.spec
-    Inv-loop
-    μ-loop
-    Inv-pairs
-    μ-pairs
+    forbidding-boxes-requires
     boxes-of-requires
-    hull-of-requires
     none-requires
-    first-of-requires
-    pairs-holds
-    pair-forbids-requires
-    first-of-requires-2
-    loop-holds
-    pair-forbids-requires-2
-    pair-area-requires
-    after-requires
-    loop-less
-    loop-again
-    after-requires-2
-    pairs-less
-    pairs-again
     returns
+    pair-area-requires
     returns-2)

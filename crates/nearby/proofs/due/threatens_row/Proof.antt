@@ -1,91 +1,78 @@
 -- `nearby::due::threatens_row` meets its contract: so far the shapes passed are forbidden no point of row i's ranges, and none is left where
 -- its set is below the next. Assumes nothing.
-use mathlib.Core.Path.{_≡_, refl, sym, _∙_, subst}
+use mathlib.Core.Path.{refl, sym, _∙_, subst}
 use mathlib.Core.Logic.{⊎-elim}
-use mathlib.Core.Bool.{true}
-use mathlib.Core.List.{List}
 use Prim.Native.Nat.{ℕ, _-_, _^_, _≤_, _<_}
 use native.Mathlib.Nat.{eq-or-lt-of-le, le-of-suc-le-suc}
 use native.Mathlib.Omega.{arith}
 use native.Mathlib.Numerals.{add-one}
 use denote.Ref.{now}
 use lib.Count.{trailing-le}
-use lib.IntN.{ℤ}
-use borrow.Author.Tests.{eq-eqb}
 use Rattle.integers.proofs.Booleans.{clash}
 use Rattle.integers.proofs.Below.{up-next, below-or}
-use Rattle.integers.proofs.Sets.{same-only, small-set, member-ge-1}
-use Rattle.sheet.specs.Layout.{rows, shapeSet, hasShape, hasOnly}
-use Rattle.sheet.specs.Accepted.{Boxed, Table}
-use Rattle.words.proofs.Shapes.{none-before, none-past}
-use Rattle.forbid.proofs.Rows.{several-none, single-set, single-boxed}
+use Rattle.sheet.specs.Layout.{shapeSet}
+use Rattle.sheet.specs.Accepted.{Boxed, Count}
+use Rattle.words.proofs.Shapes.{shape-from, shape-upto, none-before, none-past, same-shape}
+use Rattle.forbid.proofs.Rows.{set-missed}
 use Rattle.nearby.specs.Due.{ShapeHarmless, HarmlessBy}
 use Rattle.sheet.proofs.Accepted.{set-count}
 use Rattle.nearby.proofs.due.threatens_row.Statement.{statement}
 use Rattle.nearby.proofs.due.threatens_row.Tie as tie
 
--- a shape of a row is one of the 32
-shape-from : (block t : List ℤ) (i s : ℕ) → hasShape block t i s ≡ true → 1 ≤ s
-unfolding hasShape
-shape-from block t i s e = member-ge-1 (shapeSet block t i) e
-
-shape-upto : {block t : List ℤ} → Table block t → {i : ℕ} → 1 ≤ i → i ≤ rows block t → (s : ℕ) → hasShape block t i s ≡ true → s ≤ 32
-unfolding hasShape
-shape-upto table {i} from upto s e = small-set {n = 32} (table .sets-upto i from upto) e
-
 abbrev Inv-loop : tie.InvT-loop
-Inv-loop block table outline r j i t own set s₀ s =
+Inv-loop block table outline r j i t set s₀ s =
     (s ≤ 32) × ((m : ℕ) → 1 ≤ m → m ≤ s → ShapeHarmless block table (r .number) (j .number) t (i .number) m)
 
 abbrev μ-loop : tie.MeasureT-loop
-μ-loop block table outline r j i t own set s₀ s = 32 - s
+μ-loop block table outline r j i t set s₀ s = 32 - s
 
-only-shape-requires : tie.Need-only-shape-requires Inv-loop μ-loop
-only-shape-requires c κs = let p = c .pre in (p .accepted, p .table, p .other)
+lowest-shape-requires : tie.Need-lowest-shape-requires Inv-loop μ-loop
+lowest-shape-requires c κs = let p = c .pre in (p .table, p .other)
 
-returns : tie.Need-returns Inv-loop μ-loop
-returns c e = record { spares = λ s p h k. several-none _ _ _ _ _ _ (c .before .only-shape .ensures) (c .if1 .taken) p }
+-- row i's set is one
+is-set : (c : tie.Start Inv-loop μ-loop) → let a = c .args in Count (shapeSet (now (a .block)) (now (a .table)) (a .i .number))
+is-set c = let p = c .pre in set-count (p .table) (p .row .from) (p .row .upto)
 
--- row j has one shape
-abbrev start : tie.Else1 Inv-loop μ-loop → tie.Start Inv-loop μ-loop
-start c = c .before .before
+has-one-shape-requires : tie.Need-has-one-shape-requires Inv-loop μ-loop
+has-one-shape-requires c κs = let s = c .before in (s .pre .row, is-set s)
 
-boxed : (c : tie.Else1 Inv-loop μ-loop) → Boxed (now (start c .args .block)) (c .before .only-shape .result)
-boxed c = let p = start c .pre in single-boxed _ _ (p .table) (c .before .only-shape .ensures) (p .other .from) (p .other .upto) (c .if1 .left)
+-- row j's lowest shape, which forbids all that row j does
+module _ (c : tie.After-lowest-shape Inv-loop μ-loop) where
+  abbrev start : tie.Start Inv-loop μ-loop
+  start = c .before
 
-harmless : (c : tie.Else1 Inv-loop μ-loop) → let a = start c .args in
-    ((s : ℕ) → ShapeHarmless (now (a .block)) (now (a .table)) (a .r .number) (a .j .number) (c .before .only-shape .result) (a .i .number) s)
-    → HarmlessBy (now (a .block)) (now (a .table)) (a .r .number) (a .j .number) (a .i .number)
-harmless c f = record {
-  spares = λ s p h k. sym (single-set _ _ _ _ _ _ (c .before .only-shape .ensures) (c .if1 .left) p) ∙ f s p h k;
-}
+  boxed : Boxed (now (start .args .block)) (c .lowest-shape .result)
+  boxed = let p = start .pre in p .table .boxed _ _ (p .other .from) (p .other .upto) (c .lowest-shape .ensures .held)
 
-only-shape-requires-2 : tie.Need-only-shape-requires-2 Inv-loop μ-loop
-only-shape-requires-2 c κs = let p = start c .pre in (p .accepted, p .table, p .row)
+  harmless : let a = start .args in
+      ((s : ℕ) → ShapeHarmless (now (a .block)) (now (a .table)) (a .r .number) (a .j .number) (c .lowest-shape .result) (a .i .number) s)
+      → HarmlessBy (now (a .block)) (now (a .table)) (a .r .number) (a .j .number) (a .i .number)
+  harmless f = record {
+    spares = λ s p h k. set-missed _ _ _ _ _ _ _ (c .lowest-shape .ensures .upto) (c .lowest-shape .ensures .held) p (f s p h k);
+  }
+
+lowest-shape-requires-2 : tie.Need-lowest-shape-requires-2 Inv-loop μ-loop
+lowest-shape-requires-2 c κs = let p = start (c .before .before) .pre in (p .table, p .row)
 
 threatens-shape-requires : tie.Need-threatens-shape-requires Inv-loop μ-loop
 threatens-shape-requires c κs =
-    let x = c .before in
-    let w = x .before in
-    record { rows-of = start w .pre; shape = boxed w; number = record { from = omega (arith, c .if2 .taken); upto = x .only-shape2 .ensures .upto } }
+    let w = c .before .before .before in
+    let own = c .lowest-shape2 .ensures in
+    record { rows-of = start w .pre; shape = boxed w; number = record { from = shape-from _ _ _ _ (own .held); upto = own .upto } }
 
-returns-2 : tie.Need-returns-2 Inv-loop μ-loop
-unfolding hasShape hasOnly
-returns-2 c e =
-    let x = c .before .before in
-    let w = x .before in
+returns : tie.Need-returns Inv-loop μ-loop
+returns c e =
+    let x = c .before in
+    let o = x .before .before in
+    let w = o .before in
     let a = start w .args in
-    let own = x .only-shape2 .result in
-    let only = x .only-shape2 .ensures .is own (omega (arith, c .before .if2 .taken)) ∙ eq-eqb own own refl in
     harmless w (λ s p h k.
-    let q : s ≡ own = same-only (shapeSet (now (a .block)) (now (a .table)) (a .i .number)) only h in
-    subst (λ (m : ℕ). ShapeHarmless (now (a .block)) (now (a .table)) (a .r .number) (a .j .number) (w .before .only-shape .result) (a .i .number) m)
-    (sym q) (c .threatens-shape .ensures e) p h k)
+    subst (λ (m : ℕ). ShapeHarmless (now (a .block)) (now (a .table)) (a .r .number) (a .j .number) (w .lowest-shape .result) (a .i .number) m)
+    (sym (same-shape _ _ _ _ _ (sym (o .has-one-shape .ensures) ∙ x .before .if1 .taken) (x .lowest-shape2 .ensures .held) h))
+    (c .threatens-shape .ensures e) p h k)
 
 shapes-of-requires : tie.Need-shapes-of-requires Inv-loop μ-loop
-shapes-of-requires c κs =
-    let p = start (c .before .before) .pre in
-    (p .row, set-count (p .table) (p .row .from) (p .row .upto))
+shapes-of-requires c κs = let s = start (c .before .before) in (s .pre .row, is-set s)
 
 cast-s : tie.Need-cast-s Inv-loop μ-loop
 cast-s c = omega (arith, trailing-le 32 (c .shapes-of .result))
@@ -96,16 +83,15 @@ loop-holds c = (trailing-le 32 (c .shapes-of .result), λ m f u p h k. clash h (
 is-below-requires : tie.Need-is-below-requires Inv-loop μ-loop
 is-below-requires c κs = omega (arith, c .loop-test .taken)
 
-returns-3 : tie.Need-returns-3 Inv-loop μ-loop
-returns-3 c e =
+returns-2 : tie.Need-returns-2 Inv-loop μ-loop
+returns-2 c e =
     let b = c .before in
     let l = b .before .before in
     let x = l .before in
     let w = x .before .before .before in
-    let r = start w .pre .row in
-    let u = subst (λ (n : ℕ). n < 2 ^ l .loop .s) (x .shapes-of .ensures) (b .is-below .ensures .0 (c .if3 .taken)) in
+    let u = subst (λ (n : ℕ). n < 2 ^ l .loop .s) (x .shapes-of .ensures) (b .is-below .ensures .0 (c .if2 .taken)) in
     harmless w (λ s p h k. ⊎-elim
-    (λ n. clash h (none-past _ _ _ (set-count (start w .pre .table) (r .from) (r .upto)) u n))
+    (λ n. clash h (none-past _ _ _ (is-set (start w)) u n))
     (λ n. l .loop .inv .1 s (shape-from _ _ _ s h) n p h k) (below-or (l .loop .s) s))
 
 add-threatens-shape : tie.Need-add-threatens-shape Inv-loop μ-loop
@@ -117,8 +103,8 @@ threatens-shape-requires-2 c κs =
     let w = b .before .before .before .before .before in
     record { rows-of = start w .pre; shape = boxed w; number = up-next (b .loop-test .taken) }
 
-returns-4 : tie.Need-returns-4 Inv-loop μ-loop
-returns-4 c e = clash refl e
+returns-3 : tie.Need-returns-3 Inv-loop μ-loop
+returns-3 c e = clash refl e
 
 add-s : tie.Need-add-s Inv-loop μ-loop
 add-s c = omega (arith, c .before .before .before .before .loop-test .taken)
@@ -136,12 +122,12 @@ loop-again c =
       omega (arith, b .loop-test .taken),
       λ m f u. ⊎-elim
           (λ q. subst (λ (m : ℕ). ShapeHarmless (now (a .block)) (now (a .table)) (a .r .number) (a .j .number)
-          (w .before .only-shape .result) (a .i .number) m) (sym q) (x .threatens-shape2 .ensures (c .if4 .left)))
+          (w .lowest-shape .result) (a .i .number) m) (sym q) (x .threatens-shape2 .ensures (c .if3 .left)))
           (λ k. l .loop .inv .1 m f (le-of-suc-le-suc (subst (λ (n : ℕ). m < n) (add-one (l .loop .s)) k))) (eq-or-lt-of-le u),
     )
 
-returns-5 : tie.Need-returns-5 Inv-loop μ-loop
-returns-5 c e =
+returns-4 : tie.Need-returns-4 Inv-loop μ-loop
+returns-4 c e =
     let l = c .before in
     let w = l .before .before .before .before in
     let r = start w .pre .row in
@@ -154,20 +140,20 @@ threatens-row-spec =
     (tie.spec
     Inv-loop
     μ-loop
-    only-shape-requires
-    returns
-    only-shape-requires-2
+    lowest-shape-requires
+    has-one-shape-requires
+    lowest-shape-requires-2
     threatens-shape-requires
-    returns-2
+    returns
     shapes-of-requires
     cast-s
     loop-holds
     is-below-requires
-    returns-3
+    returns-2
     add-threatens-shape
     threatens-shape-requires-2
-    returns-4
+    returns-3
     add-s
     loop-less
     loop-again
-    returns-5)
+    returns-4)

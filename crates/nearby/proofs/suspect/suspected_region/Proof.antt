@@ -87,8 +87,8 @@ row-place-requires c κs =
     let p = start l .pre .at-point in
     (p .accepted .head, p .table .whole, rw (c .count-at2 .ensures) (record { from = is l .from; upto = is l .upto }))
 
-set-region-requires : tie.Need-set-region-requires Inv-loop μ-loop
-set-region-requires c κs =
+suspect-region-requires : tie.Need-suspect-region-requires Inv-loop μ-loop
+suspect-region-requires c κs =
     let r = c .before .before in
     record {
       at-point = start (r .before .before .before .before) .pre .at-point;
@@ -108,7 +108,7 @@ returns-2 c =
     forbids-by
     (λ q h. is l .sound q
     (sym (ap₂ (λ (m n : ℕ). setForbids (now (a .block)) (now (a .table)) m q (a .nearby .i .number) (a .nearby .s) n) er ej) ∙ h))
-    (c .if3 .taken) (x .set-region .ensures (a .nearby .i .number))
+    (c .if3 .taken) (x .suspect-region .ensures (a .nearby .i .number))
 
 add-e : tie.Need-add-e Inv-loop μ-loop
 add-e c = omega (arith, room (c .before .before))
@@ -168,7 +168,7 @@ suspected-region-spec =
     add-count-at
     count-at-requires-2
     row-place-requires
-    set-region-requires
+    suspect-region-requires
     returns-2
     add-e
     loop-less

@@ -4,6 +4,7 @@ use mathlib.Core.Bool.{true}
 use denote.Ref.{now}
 use Rattle.integers.proofs.Booleans.{not-true, not-false}
 use Rattle.sheet.specs.Layout.{namesRow}
+use Rattle.sheet.specs.Accepted.{Boxed}
 use Rattle.words.proofs.Ends.{row-bit}
 use Rattle.forbid.specs.Region.{Versus}
 use Rattle.placement.specs.Before.{namedForbids}
@@ -45,10 +46,13 @@ versus x =
       row = w .2;
     }
 
+other : (x : tie.After-shape-of) → Boxed (now (x .before .before .before .args .block)) (x .shape-of .result)
+other x =
+    let w = x .before .before .before .pre in
+    w .0 .sheet .table .boxed _ _ (w .2 .from) (w .2 .upto) (held _ _ (x .shape-of .ensures))
+
 hulls-clash-requires : tie.Need-hulls-clash-requires
-hulls-clash-requires c κs =
-    let w = c .before .before .before .pre in
-    (versus c, w .0 .sheet .table .boxed _ _ (w .2 .from) (w .2 .upto) (held _ _ (c .shape-of .ensures)))
+hulls-clash-requires c κs = (versus c, other c)
 
 -- the rule names the row
 named : (x : tie.After-shape-of) → let a = x .before .before .before .args in namesRow (now (a .block)) (a .r .number) (a .j .number) ≡ true
@@ -61,12 +65,14 @@ returns-2 c =
     let x = h .before in
     rw (named x) (sym (sym (sole-set _ _ (x .shape-of .ensures) _ _ _ _) ∙ h .hulls-clash .ensures _ (not-true (c .if2 .taken))))
 
-set-region-requires : tie.Need-set-region-requires
-set-region-requires c κs = versus (c .before .before)
+shapes-region-requires : tie.Need-shapes-region-requires
+shapes-region-requires c κs = let x = c .before .before in (versus x, other x)
 
 returns-3 : tie.Need-returns-3
 unfolding namedForbids
-returns-3 c = rw (named (c .before .before .before)) (c .set-region .ensures _ .hit)
+returns-3 c =
+    let x = c .before .before .before in
+    rw (named x) (c .shapes-region .ensures _ .hit ∙ sole-set _ _ (x .shape-of .ensures) _ _ _ _)
 
 pub row-forbids-spec : {M : Type 1} → statement M
 row-forbids-spec =
@@ -77,5 +83,5 @@ row-forbids-spec =
     shape-of-requires
     hulls-clash-requires
     returns-2
-    set-region-requires
+    shapes-region-requires
     returns-3)

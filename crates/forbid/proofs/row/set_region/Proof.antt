@@ -7,7 +7,6 @@ use native.Mathlib.Omega.{arith}
 use denote.Ref.{now}
 use lib.Count.{trailing-le}
 use Rattle.integers.proofs.Booleans.{not-true, not-false}
-use Rattle.integers.proofs.Below.{up-next}
 use Rattle.integers.proofs.Sets.{set-below}
 use Rattle.sheet.specs.Layout.{axes, shapeSet, hasShape}
 use Rattle.sheet.specs.Accepted.{Count}
@@ -71,7 +70,7 @@ add-has-shape : tie.Need-add-has-shape Inv-loop μ-loop
 add-has-shape c = omega (arith, few (c .before .before))
 
 has-shape-requires : tie.Need-has-shape-requires Inv-loop μ-loop
-has-shape-requires c κs = let l = c .before .before in (top l .pre .row, is-set (top l), up-next (l .loop-test .taken))
+has-shape-requires c κs = let l = c .before .before in (top l .pre .row, is-set (top l), record { from = omega arith; upto = few l })
 
 -- and one of the set
 module _ (c : tie.Then2 Inv-loop μ-loop) where

@@ -9,7 +9,7 @@ use native.Mathlib.Numerals.{add-one}
 use denote.Ref.{now}
 use lib.Count.{trailing-le}
 use Rattle.integers.proofs.Booleans.{clash}
-use Rattle.integers.proofs.Below.{up-next, below-or}
+use Rattle.integers.proofs.Below.{below-or}
 use Rattle.sheet.specs.Layout.{shapeSet}
 use Rattle.sheet.specs.Accepted.{Boxed, Count}
 use Rattle.words.proofs.Shapes.{shape-from, shape-upto, none-before, none-past, same-shape}
@@ -101,7 +101,7 @@ threatens-shape-requires-2 : tie.Need-threatens-shape-requires-2 Inv-loop μ-loo
 threatens-shape-requires-2 c κs =
     let b = c .before .before in
     let w = b .before .before .before .before .before in
-    record { rows-of = start w .pre; shape = boxed w; number = up-next (b .loop-test .taken) }
+    record { rows-of = start w .pre; shape = boxed w; number = record { from = omega arith; upto = omega (arith, b .loop-test .taken) } }
 
 returns-3 : tie.Need-returns-3 Inv-loop μ-loop
 returns-3 c e = clash refl e

@@ -60,28 +60,8 @@ pub(crate) fn put_suspect(suspects: &mut [i64], e: usize, r: usize, j: usize, ar
     ends::put_area(suspects, at + AREA, area);
 }
 
-// What row j forbids to shape s around p by rule r. A row with one shape, as most have, is asked about by that shape alone.
-fn suspect_region(
-    block: &[i64],
-    table: &[i64],
-    outline: &[i64; OUTLINE],
-    r: Place,
-    s: usize,
-    j: Place,
-    p: [i64; COORDINATES],
-) -> Region
-    requires { ⌜ Versus (now block) (now table) (now outline) r s j p ⌝ }
-    ensures { λ x. ⌜ ((i : ℕ) → IsRegion (axes (now (block .entry)))
-        (λ q. setForbids (now (block .entry)) (now (table .entry)) (r .number) q i s (j .number)) p x) ⌝ }
-{
-    if words::has_one_shape(block, table, j) {
-        let t = words::lowest_shape(block, table, j);
-        return row::shapes_region(block, table, outline, r, s, j, t, p);
-    }
-    row::set_region(block, table, outline, r, s, j, p)
-}
-
-// What forbids p among the suspects whose area holds it, or where the list is not whole among all rules and rows.
+// What forbids p among the suspects whose area holds it, or where the list is not whole among all rules and rows. A row with one shape, as most
+// have, is asked about by that shape alone. Either region is handed back where it is found: one that may come of two calls is copied once more.
 pub(crate) fn suspected_region(
     block: &[i64],
     table: &[i64],
@@ -108,10 +88,19 @@ pub(crate) fn suspected_region(
         if ends::area_holds(suspects, at + AREA, k, p) {
             let r = words::rule_place(block, words::count_at(suspects, at));
             let j = words::row_place(block, table, words::count_at(suspects, at + ROW));
-            let x = suspect_region(block, table, outline, r, s, j, p);
-            let hit = x.hit;
-            if hit {
-                return x;
+            if words::has_one_shape(block, table, j) {
+                let t = words::lowest_shape(block, table, j);
+                let x = row::shapes_region(block, table, outline, r, s, j, t, p);
+                let hit = x.hit;
+                if hit {
+                    return x;
+                }
+            } else {
+                let x = row::set_region(block, table, outline, r, s, j, p);
+                let hit = x.hit;
+                if hit {
+                    return x;
+                }
             }
         }
         e += 1;

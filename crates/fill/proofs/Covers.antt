@@ -5,7 +5,6 @@ use mathlib.Core.Bool.{Bool, true, false, cond, _&&_, _||_, or-assoc, or-comm}
 use mathlib.Core.List.{List}
 use Prim.Native.Nat.{ℕ, suc, _+_, _≤_, _<_}
 use native.Mathlib.Numerals.{add-one}
-use lib.Count.{trailingZeros}
 use lib.ListN.{getD}
 use lib.IntN.{ℤ, pos}
 use Rattle.integers.specs.Integer.{nat, eqZ}
@@ -15,13 +14,15 @@ use Rattle.integers.proofs.Below.{any-zero, any-more, any-next, false-any, upto
 use Rattle.integers.proofs.Digits.{sum-same}
 use Rattle.integers.proofs.Ints.{eqZ-eq, eq-eqZ}
 use Rattle.integers.proofs.Ranges.{pos-nat}
-use Rattle.sheet.specs.Layout.{boxes, shapeOf, isOf, namesRow, rows, shapeSet, hasShape, ofRow}
+use Rattle.sheet.specs.Layout.{boxes, shapeOf, isOf, namesRow, rows, hasShape, ofRow}
 use Rattle.sheet.specs.Placement.{rowFixed, fixed}
 use Rattle.sheet.specs.Fill.{roomCells, boxCovers, rowCovers, coversCell, coveredCells}
 use Rattle.sheet.specs.Cells.{cellAt}
 use Rattle.sheet.proofs.Cells.{covered-numbered}
 use Rattle.words.specs.declared.Place.{Place}
-use Rattle.placement.proofs.OneShape.{shape-below, held, sole}
+use Rattle.words.specs.Shapes.{LowestShape}
+use Rattle.placement.specs.Before.{SoleShape}
+use Rattle.placement.proofs.OneShape.{lowest-sole, sole}
 use Rattle.fill.specs.Room.{Named, Adds}
 
 -- ---- marks
@@ -38,31 +39,21 @@ module _ {n : ℕ} {old : List Bool} where
   }
 
 -- ---- the boxes of a row
-module _ {block t : List ℤ} {r i : Place} (w : Named block t r i) where
-  abbrev set : ℕ
-  set = nat (shapeSet block t (i .number))
-
-  fixed-row : rowFixed block t (i .number) ≡ true
+module _ {block t : List ℤ} {r i : Place} (w : Named block t r i) {s : ℕ} (l : LowestShape block t (i .number) s) where
+  one : SoleShape block t (i .number) s
   unfolding fixed
-  fixed-row = upto-at (rowFixed block t) (w .counting .all-fixed) (i .number) (w .row .from) (w .row .upto)
+  one = lowest-sole block t (upto-at (rowFixed block t) (w .counting .all-fixed) (i .number) (w .row .from) (w .row .upto)) l
 
-  -- the one shape has a number below 33, and its boxes are the row's
-  pub shape-few : trailingZeros 32 set < 32
-  shape-few = shape-below block t (i .number) (w .counting .table) (w .row .from) (w .row .upto) fixed-row
-
-  pub own-box : {b : ℕ} → b < boxes block → isOf block b (trailingZeros 32 set + 1) ≡ ofRow block t (i .number) b
+  -- the boxes of the one shape are the row's
+  pub own-box : {b : ℕ} → b < boxes block → isOf block b s ≡ ofRow block t (i .number) b
   unfolding isOf ofRow
-  own-box {b} l = rw (add-one (trailingZeros 32 set)) (both-ways _ _ there back)
+  own-box {b} h = both-ways _ _ there back
     where
-      there : eqZ (shapeOf block b) (pos (suc (trailingZeros 32 set))) ≡ true → hasShape block t (i .number) (nat (shapeOf block b)) ≡ true
-      there e =
-          ap (λ (z : ℤ). hasShape block t (i .number) (nat z)) (eqZ-eq e)
-          ∙ held block t (i .number) (w .counting .table) (w .row .from) (w .row .upto) fixed-row
+      there : eqZ (shapeOf block b) (pos s) ≡ true → hasShape block t (i .number) (nat (shapeOf block b)) ≡ true
+      there e = ap (λ (z : ℤ). hasShape block t (i .number) (nat z)) (eqZ-eq e) ∙ l .held
 
-      back : hasShape block t (i .number) (nat (shapeOf block b)) ≡ true → eqZ (shapeOf block b) (pos (suc (trailingZeros 32 set))) ≡ true
-      back e =
-          eq-eqZ (sym (pos-nat (w .counting .room .accepted .shapes b l .from))
-          ∙ ap pos (sole block t (i .number) (w .counting .table) (w .row .from) (w .row .upto) fixed-row _ e))
+      back : hasShape block t (i .number) (nat (shapeOf block b)) ≡ true → eqZ (shapeOf block b) (pos s) ≡ true
+      back e = eq-eqZ (sym (pos-nat (w .counting .room .accepted .shapes b h .from)) ∙ ap pos (sole block t one _ e))
 
 -- the row's boxes before b cover cell m
 module _ (block t : List ℤ) (r i : ℕ) where

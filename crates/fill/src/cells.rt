@@ -58,8 +58,7 @@ fn mark_row(
 {
     let k = words::dims_of(block);
     let n = words::boxes_of(block);
-    let set = words::shapes_of(block, table, i);
-    let s = u32::trailing_zeros(set) as usize + 1;
+    let s = words::lowest_shape(block, table, i);
     let mut b = chain::first_of(block, outline, s);
     while b < n {
         let brick = brick_of(block, table, r, i, words::box_place(block, b));

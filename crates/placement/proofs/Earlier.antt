@@ -1,22 +1,19 @@
 -- Of two fixed rows that clash each forbids the other its point, so a placement is good where no row before a row forbids it its own
 -- (`clear-good`), and a row is bad where one does (`bad-before`). Assumes nothing.
-use mathlib.Core.Path.{_≡_, sym, ap, _∙_, subst}
+use mathlib.Core.Path.{_≡_, sym, _∙_, subst}
 use mathlib.Core.Logic.{⊎-elim}
 use mathlib.Core.Bool.{true, false, _&&_}
 use mathlib.Core.List.{List}
 use Prim.Native.Nat.{ℕ, _<_}
-use native.Mathlib.Numerals.{add-one}
 use native.Mathlib.Omega.{arith}
 use lib.IntN.{ℤ}
 use lib.Signed.{_≤ℤ_}
 use Rattle.integers.specs.Words.{word}
 use Rattle.integers.proofs.Booleans.{clash, fails, and-true, true-and}
 use Rattle.integers.proofs.Below.{any-at, any-true, upto-at, at-upto, some-upto, upto-some, below-or}
-use Rattle.integers.proofs.Sets.{only-held}
-use Rattle.sheet.specs.Layout.{axes, shapeSet, low, hasShape, hasOnly}
-use Rattle.sheet.specs.Allowed.{roomsHold, inRanges, forbidFrom, forbidTo, pairForbids, shapesForbid, setForbids, forbidden, allowed}
+use Rattle.sheet.specs.Layout.{axes, low}
+use Rattle.sheet.specs.Allowed.{roomsHold, inRanges, forbidFrom, forbidTo, pairForbids, shapesForbid, setForbids, forbidden}
 use Rattle.sheet.specs.Placement.{rowFixed, fixed, pointOf, good}
-use Rattle.sheet.specs.Accepted.{Table}
 use Rattle.sheet.proofs.Forbidden.{axis, allowed-parts, allowed-by, pair-at, pair-by, shapes-by, shapes-parts, set-one}
 use Rattle.sheet.proofs.Forbidden.{Forbids, forbidden-by, forbidden-parts}
 use Rattle.sheet.proofs.Coordinates.{Agree}
@@ -24,14 +21,10 @@ use Rattle.sheet.proofs.Exchange.{at-point, exchange}
 use Rattle.sheet.proofs.Fixed.{Row, still}
 use Rattle.placement.specs.Rows.{rowGood}
 use Rattle.placement.specs.Before.{namedForbids, beforeForbids, ruleForbidsBefore, forbiddenBefore, SoleShape, Clear}
-use Rattle.placement.proofs.OneShape.{sole, row-good-is}
+use Rattle.placement.proofs.OneShape.{row-good-is}
 
 module _ (block t : List ℤ) where
   -- ---- the one shape of a row
-  pub held : {i s : ℕ} → SoleShape block t i s → hasShape block t i s ≡ true
-  unfolding hasShape hasOnly
-  held {i} {s} o = only-held (shapeSet block t i) s (o .only)
-
   pub sole-set : {j s' : ℕ} → SoleShape block t j s' → (r i s : ℕ) (p : List ℤ)
       → shapesForbid block t r p i s j s' ≡ setForbids block t r p i s j
   sole-set {j} {s'} o r i s p = set-one block t r i s j s' p (o .upto) (o .only)
@@ -77,25 +70,20 @@ module _ (block t : List ℤ) where
   from-origin : {i : ℕ} (c : Clear block t i) → Agree block t (pointOf block t i) (c .point)
   from-origin c d l = sym (at-origin c d l)
 
+  -- ---- a row with one shape, at its point
+  module _ {i s : ℕ} (row : Row block t i) (o : SoleShape block t i s) (p : List ℤ)
+      (at : (d : ℕ) → d < axes block → word p d ≡ low block t i d) where
+    pub bad-cut : (inRanges block t i p && roomsHold block i s p) ≡ false → rowGood block t i ≡ false
+    bad-cut e = fails (λ g. let w = allowed-parts block t i s p (row-good-is block t o p at ∙ g) in clash (true-and (w .0) (w .1)) e)
+
+    pub bad-before : forbiddenBefore block t i s p ≡ true → rowGood block t i ≡ false
+    bad-before e = fails (λ g. clash (before-forbids i s p row e) (allowed-parts block t i s p (row-good-is block t o p at ∙ g) .2))
+
   -- ---- a fixed placement
-  module _ (table : Table block t) (all-fixed : fixed block t ≡ true) where
+  module _ (all-fixed : fixed block t ≡ true) where
     pub row-fixed : {i : ℕ} → Row block t i → rowFixed block t i ≡ true
     unfolding fixed
     row-fixed {i} h = upto-at (rowFixed block t) all-fixed i (h .from) (h .upto)
-
-    module _ {i s : ℕ} (row : Row block t i) (o : SoleShape block t i s) (p : List ℤ)
-        (at : (d : ℕ) → d < axes block → word p d ≡ low block t i d) where
-      allowed-is : allowed block t i s p ≡ rowGood block t i
-      allowed-is =
-          ap (λ (x : ℕ). allowed block t i x p)
-          (sole block t i table (row .from) (row .upto) (row-fixed row) s (held o) ∙ sym (add-one _))
-          ∙ row-good-is block t i table (row .from) (row .upto) (row-fixed row) p at
-
-      pub bad-cut : (inRanges block t i p && roomsHold block i s p) ≡ false → rowGood block t i ≡ false
-      bad-cut e = fails (λ g. let w = allowed-parts block t i s p (allowed-is ∙ g) in clash (true-and (w .0) (w .1)) e)
-
-      pub bad-before : forbiddenBefore block t i s p ≡ true → rowGood block t i ≡ false
-      bad-before e = fails (λ g. clash (before-forbids i s p row e) (allowed-parts block t i s p (allowed-is ∙ g) .2))
 
     -- what a later row forbids to row i, row i forbids to the later one
     later : {i : ℕ} → Row block t i → (c : Clear block t i) (f : Forbids block t i (c .shape) (c .point)) (d : Clear block t (f .other))
@@ -144,6 +132,6 @@ module _ (block t : List ℤ) where
           at-upto (rowGood block t) (λ i from upto.
           let row : Row block t i = record { from = from; upto = upto } in
           let c = all i row in
-          sym (allowed-is row (c .sole) (c .point) (c .at))
+          sym (row-good-is block t (c .sole) (c .point) (c .at))
           ∙ allowed-by block t i (c .shape) (c .point) (c .ranges) (c .rooms)
           (λ e. free i row (forbidden-parts block t i (c .shape) (c .point) e)))

@@ -1,74 +1,59 @@
--- A fixed row has one shape: it is good exactly when that shape is allowed at the row's point (`row-good-is`). Assumes nothing.
-use mathlib.Core.Path.{_≡_, sym, ap, _∙_, subst}
+-- The lowest shape of a fixed row is its one shape (`lowest-sole`), and the row is good exactly when that shape is allowed at the row's point
+-- (`row-good-is`). Assumes nothing.
+use mathlib.Core.Path.{_≡_, sym, _∙_, subst}
 use mathlib.Core.Bool.{Bool, true}
 use mathlib.Core.List.{List}
-use Prim.Native.Nat.{ℕ, zero, suc, _+_, _^_, _≤_, _<_}
-use native.Mathlib.Numerals.{add-one}
-use native.Mathlib.Omega.{arith}
-use lib.Count.{ones, trailingZeros}
+use Prim.Native.Nat.{ℕ, _<_}
 use lib.IntN.{ℤ}
-use Rattle.integers.specs.Integer.{nat}
 use Rattle.integers.specs.Below.{_⇒_}
 use Rattle.integers.specs.Words.{word}
 use Rattle.integers.proofs.Booleans.{both-ways, and-true, implies-true, true-implies}
 use Rattle.integers.proofs.Below.{upto-at, at-upto, some-upto}
-use Rattle.integers.proofs.Bits.{one-lt, only-one}
-use Rattle.integers.proofs.Sets.{set-below, only-shape, only-bit, only-held, same-only}
-use Rattle.sheet.specs.Layout.{axes, rows, shapeSet, low, hasShape, hasOnly}
+use Rattle.integers.proofs.Sets.{only-held, same-only, held-only}
+use Rattle.sheet.specs.Layout.{axes, shapeSet, low, hasShape, hasOnly}
 use Rattle.sheet.specs.Allowed.{allowed}
 use Rattle.sheet.specs.Placement.{rowFixed, pointOf}
-use Rattle.sheet.specs.Accepted.{Table}
 use Rattle.sheet.proofs.Coordinates.{allowed-agree}
 use Rattle.sheet.proofs.Exchange.{at-point}
+use Rattle.words.specs.Shapes.{LowestShape}
+use Rattle.words.proofs.Shapes.{shape-from}
 use Rattle.placement.specs.Rows.{rowGood}
+use Rattle.placement.specs.Before.{SoleShape}
 
-module _ (block t : List ℤ) (i : ℕ) (table : Table block t) (from : 1 ≤ i) (upto : i ≤ rows block t) (fixed : rowFixed block t i ≡ true) where
-  abbrev set : ℕ
-  set = nat (shapeSet block t i)
-
-  small : set < 2 ^ 32
-  small = set-below 32 (table .sets-upto i from upto)
-
-  one : ones set ≡ 1
-  unfolding rowFixed hasOnly
-  one =
+module _ (block t : List ℤ) {i s : ℕ} where
+  pub lowest-sole : rowFixed block t i ≡ true → LowestShape block t i s → SoleShape block t i s
+  unfolding rowFixed hasShape hasOnly
+  lowest-sole fixed l =
       let w = some-upto (hasOnly block t i) (and-true fixed .0) in
-      ones-of (w .0) (w .1) (w .3)
-    where
-      ones-of : (s : ℕ) → 1 ≤ s → hasOnly block t i s ≡ true → ones set ≡ 1
-      ones-of (suc m) h e = only-one (only-bit (shapeSet block t i) m e)
-      ones-of zero h e = absurd (omega arith)
+      record {
+        from = shape-from block t i s (l .held);
+        upto = l .upto;
+        only = held-only (shapeSet block t i) (w .0) s (w .3) (l .held);
+      }
 
-  pub shape-below : trailingZeros 32 set < 32
-  shape-below = one-lt 32 small one
+  module _ (o : SoleShape block t i s) where
+    pub held : hasShape block t i s ≡ true
+    unfolding hasShape hasOnly
+    held = only-held (shapeSet block t i) s (o .only)
 
-  -- the one shape, where the set's trailing zeros end
-  pub shape : hasOnly block t i (suc (trailingZeros 32 set)) ≡ true
-  unfolding hasOnly
-  shape = only-shape 32 (shapeSet block t i) small one
+    pub sole : (x : ℕ) → hasShape block t i x ≡ true → x ≡ s
+    unfolding hasShape hasOnly
+    sole x e = same-only (shapeSet block t i) (o .only) e
 
-  pub held : hasShape block t i (suc (trailingZeros 32 set)) ≡ true
-  unfolding hasShape hasOnly
-  held = only-held (shapeSet block t i) (suc (trailingZeros 32 set)) shape
+    module _ (p : List ℤ) (at : (d : ℕ) → d < axes block → word p d ≡ low block t i d) where
+      agree : (x : ℕ) → allowed block t i x p ≡ allowed block t i x (pointOf block t i)
+      agree x = allowed-agree block t p (pointOf block t i) (λ d l. at d l ∙ sym (at-point block t i d l)) i x
 
-  pub sole : (s : ℕ) → hasShape block t i s ≡ true → s ≡ suc (trailingZeros 32 set)
-  unfolding hasShape hasOnly
-  sole s e = same-only (shapeSet block t i) shape e
+      abbrev test : ℕ → Bool
+      test x = hasShape block t i x ⇒ allowed block t i x (pointOf block t i)
 
-  module _ (p : List ℤ) (at : (d : ℕ) → d < axes block → word p d ≡ low block t i d) where
-    agree : (s : ℕ) → allowed block t i s p ≡ allowed block t i s (pointOf block t i)
-    agree s = allowed-agree block t p (pointOf block t i) (λ d l. at d l ∙ sym (at-point block t i d l)) i s
+      yes : allowed block t i s p ≡ true → rowGood block t i ≡ true
+      yes e =
+          at-upto test (λ x f u. true-implies (λ q.
+          subst (λ (y : ℕ). allowed block t i y (pointOf block t i) ≡ true) (sym (sole x q)) (sym (agree s) ∙ e)))
 
-    abbrev test : ℕ → Bool
-    test s = hasShape block t i s ⇒ allowed block t i s (pointOf block t i)
+      no : rowGood block t i ≡ true → allowed block t i s p ≡ true
+      no g = agree s ∙ implies-true (upto-at test g s (o .from) (o .upto)) held
 
-    yes : allowed block t i (suc (trailingZeros 32 set)) p ≡ true → rowGood block t i ≡ true
-    yes e =
-        at-upto test (λ s f u. true-implies (λ q.
-        subst (λ (x : ℕ). allowed block t i x (pointOf block t i) ≡ true) (sym (sole s q)) (sym (agree _) ∙ e)))
-
-    no : rowGood block t i ≡ true → allowed block t i (suc (trailingZeros 32 set)) p ≡ true
-    no g = agree _ ∙ implies-true (upto-at test g (suc (trailingZeros 32 set)) (omega arith) shape-below) held
-
-    pub row-good-is : allowed block t i (trailingZeros 32 set + 1) p ≡ rowGood block t i
-    row-good-is = ap (λ (s : ℕ). allowed block t i s p) (add-one (trailingZeros 32 set)) ∙ both-ways _ _ yes no
+      pub row-good-is : allowed block t i s p ≡ rowGood block t i
+      row-good-is = both-ways _ _ yes no

@@ -1,27 +1,15 @@
 // Judging a fixed row against the rows before it: of two rows that clash the later one is found bad, so each pair is looked at once.
 ghost use mathlib.Core.Path.{_≡_};
-ghost use mathlib.Core.Bool.{true};
 ghost use Prim.Native.Nat.{_<_};
 ghost use Rattle.sheet.specs.Layout.{rules};
-ghost use Rattle.sheet.specs.Placement.{rowFixed};
-ghost use Rattle.sheet.specs.Accepted.{Table};
 ghost use Rattle.words.specs.Places.{RowPlace, RulePlace};
 ghost use Rattle.placement.specs.Rows.{FixedSheet};
-ghost use Rattle.placement.specs.Before.{namedForbids, beforeForbids, ruleForbidsBefore, forbiddenBefore, SoleShape, Judging, Judged};
+ghost use Rattle.placement.specs.Before.{namedForbids, beforeForbids, ruleForbidsBefore, forbiddenBefore, Judging, Judged};
 use forbid::clash;
 use forbid::row;
 use outline::OUTLINE;
 use points::COORDINATES;
 use words::Place;
-
-// The one shape of a fixed row.
-fn shape_of(block: &[i64], table: &[i64], i: Place) -> usize
-    requires { ⌜ Table (now block) (now table) × RowPlace (now block) (now table) i × (rowFixed (now block) (now table) (i .number) ≡ true) ⌝ }
-    ensures { λ s. ⌜ SoleShape (now (block .entry)) (now (table .entry)) (i .number) s ⌝ }
-{
-    let set = words::shapes_of(block, table, i);
-    u32::trailing_zeros(set) as usize + 1
-}
 
 // Whether rule r names row j, and that forbids p to shape s of row i.
 fn row_forbids(
@@ -41,7 +29,7 @@ fn row_forbids(
     if !words::names_row(block, r, other) {
         return false;
     }
-    let t = shape_of(block, table, j);
+    let t = words::lowest_shape(block, table, j);
     if !clash::hulls_clash(block, table, outline, r, s, j, t, p) {
         return false;
     }
@@ -123,7 +111,7 @@ pub(crate) fn row_stands(block: &[i64], table: &[i64], outline: &[i64; OUTLINE],
     requires { ⌜ FixedSheet (now block) (now table) (now outline) × RowPlace (now block) (now table) i ⌝ }
     ensures { λ r. ⌜ Judged (now (block .entry)) (now (table .entry)) (i .number) r ⌝ }
 {
-    let s = shape_of(block, table, i);
+    let s = words::lowest_shape(block, table, i);
     let p = crate::origin(block, table, i);
     let k = words::axes_of(block);
     let cut = region::cut_box(block, table, outline, i, s);

@@ -68,7 +68,7 @@ loop-again c =
 returns-2 : tie.Need-returns-2 Inv-loop μ-loop
 returns-2 c =
     let s = c .before .before .before in
-    sym (clear-good _ _ (s .pre .table) (s .pre .all-fixed)
+    sym (clear-good _ _ (s .pre .all-fixed)
     (λ i row. c .before .loop .inv .1 i (row .from) (omega (arith, c .before .before .rows-of .ensures, row .upto, c .loop-test .left))))
 
 pub all-good-spec : {M : Type 1} → statement M

@@ -1,35 +1,31 @@
 -- `fill::cells::mark_row` meets its contract: the cells of the row's boxes before b are marked, and b is the next of them. Assumes nothing.
-use mathlib.Core.Path.{_≡_, sym, ap, _∙_}
+use mathlib.Core.Path.{_≡_, sym, _∙_}
 use mathlib.Core.Bool.{true}
-use Prim.Native.Nat.{ℕ, _+_, _-_, _≤_, _<_}
+use Prim.Native.Nat.{ℕ, _-_, _≤_, _<_}
 use native.Mathlib.Omega.{arith}
 use denote.Ref.{now}
-use lib.Count.{trailingZeros, trailing-le}
 use Rattle.sheet.specs.Layout.{boxes, isOf, ofRow}
 use Rattle.sheet.specs.Fill.{roomCells}
-use Rattle.sheet.proofs.Accepted.{set-count}
 use Rattle.fill.specs.Room.{NamedBox, Adds}
 use Rattle.fill.proofs.Bricks.{brick-lies, brick-adds}
-use Rattle.fill.proofs.Covers.{shape-few, own-box, boxesTo, boxes-first, boxes-next, boxes-all}
+use Rattle.fill.proofs.Covers.{own-box, boxesTo, boxes-first, boxes-next, boxes-all}
 use Rattle.fill.proofs.cells.mark_row.Statement.{statement}
 use Rattle.fill.proofs.cells.mark_row.Tie as tie
 
 abbrev Inv-loop : tie.InvT-loop
-Inv-loop block table outline r i widths marks₀ k n set s b₀ marks b =
+Inv-loop block table outline r i widths marks₀ k n s b₀ marks b =
     (b ≤ n) × (b < n → ofRow block table (i .number) b ≡ true)
     × Adds (roomCells block (r .number)) (boxesTo block table (r .number) (i .number) b) marks₀ marks
 
 abbrev μ-loop : tie.MeasureT-loop
-μ-loop block table outline r i widths marks₀ k n set s b₀ marks b = n - b
+μ-loop block table outline r i widths marks₀ k n s b₀ marks b = n - b
 
 -- the boxes of the shape are the row's
-own : (c : tie.After-shapes-of Inv-loop μ-loop) {b : ℕ} → let s = c .before .before .before in
+own : (c : tie.After-lowest-shape Inv-loop μ-loop) {b : ℕ} → let s = c .before .before .before in
     b < boxes (now (s .args .block))
-    → isOf (now (s .args .block)) b (trailingZeros 32 (c .shapes-of .result) + 1)
+    → isOf (now (s .args .block)) b (c .lowest-shape .result)
     ≡ ofRow (now (s .args .block)) (now (s .args .table)) (s .args .i .number) b
-own c {b} l =
-    let s = c .before .before .before in
-    ap (λ (n : ℕ). isOf (now (s .args .block)) b (trailingZeros 32 n + 1)) (c .shapes-of .ensures) ∙ own-box (s .pre .0) l
+own c = own-box (c .before .before .before .pre .0) (c .lowest-shape .ensures)
 
 dims-of-requires : tie.Need-dims-of-requires Inv-loop μ-loop
 dims-of-requires c κs = c .pre .0 .counting .room .accepted .head
@@ -37,21 +33,11 @@ dims-of-requires c κs = c .pre .0 .counting .room .accepted .head
 boxes-of-requires : tie.Need-boxes-of-requires Inv-loop μ-loop
 boxes-of-requires c κs = c .before .pre .0 .counting .room .accepted .head
 
-shapes-of-requires : tie.Need-shapes-of-requires Inv-loop μ-loop
-shapes-of-requires c κs =
-    let w = c .before .before .pre .0 in
-    (w .row, set-count (w .counting .table) (w .row .from) (w .row .upto))
-
-cast-s : tie.Need-cast-s Inv-loop μ-loop
-cast-s c = omega (arith, trailing-le 32 (c .shapes-of .result))
-
-add-s : tie.Need-add-s Inv-loop μ-loop
-add-s c = omega (arith, trailing-le 32 (c .shapes-of .result))
+lowest-shape-requires : tie.Need-lowest-shape-requires Inv-loop μ-loop
+lowest-shape-requires c κs = let w = c .before .before .pre .0 in (w .counting .table, w .row)
 
 first-of-requires : tie.Need-first-of-requires Inv-loop μ-loop
-first-of-requires c κs =
-    let p = c .before .before .before .pre in
-    (p .1 .chained, rw (c .shapes-of .ensures) (omega (arith, shape-few (p .0))))
+first-of-requires c κs = (c .before .before .before .pre .1 .chained, omega (arith, c .lowest-shape .ensures .upto))
 
 loop-holds : tie.Need-loop-holds Inv-loop μ-loop
 loop-holds c =
@@ -135,9 +121,7 @@ mark-row-spec =
     μ-loop
     dims-of-requires
     boxes-of-requires
-    shapes-of-requires
-    cast-s
-    add-s
+    lowest-shape-requires
     first-of-requires
     loop-holds
     box-place-requires

@@ -10,7 +10,8 @@ use Rattle.sheet.proofs.Fixed.{Row}
 use Rattle.points.specs.Area.{inArea}
 use Rattle.points.proofs.Areas.{in-small}
 use Rattle.placement.specs.Before.{SoleShape}
-use Rattle.placement.proofs.Earlier.{held, row-fixed, bad-cut, bad-before}
+use Rattle.placement.proofs.OneShape.{lowest-sole}
+use Rattle.placement.proofs.Earlier.{row-fixed, bad-cut, bad-before}
 use Rattle.placement.proofs.judge.row_stands.Statement.{statement}
 use Rattle.placement.proofs.judge.row_stands.Tie as tie
 
@@ -25,8 +26,8 @@ module _ (c : tie.After-holds) where
   abbrev top : tie.Start
   top = c .before .before .before .before .before
 
-  sole : SoleShape (top .args .block .now) (top .args .table .now) (top .args .i .number) (found .before .shape-of .result)
-  sole = found .before .shape-of .ensures
+  sole : SoleShape (top .args .block .now) (top .args .table .now) (top .args .i .number) (found .before .lowest-shape .result)
+  sole = lowest-sole _ _ (row-fixed _ _ (top .pre .0 .all-fixed) (row top)) (found .before .lowest-shape .ensures)
 
   in-cut : inArea (axes (top .args .block .now)) (c .before .cut-box .result) (found .origin .result) ≡ c .holds .result
   in-cut =
@@ -35,13 +36,11 @@ module _ (c : tie.After-holds) where
 
   -- what the box test says
   boxed : (inRanges (top .args .block .now) (top .args .table .now) (top .args .i .number) (found .origin .result)
-      && roomsHold (top .args .block .now) (top .args .i .number) (found .before .shape-of .result) (found .origin .result)) ≡ c .holds .result
+      && roomsHold (top .args .block .now) (top .args .i .number) (found .before .lowest-shape .result) (found .origin .result)) ≡ c .holds .result
   boxed = sym (c .before .cut-box .ensures .is _) ∙ in-cut
 
-shape-of-requires : tie.Need-shape-of-requires
-shape-of-requires c κs =
-    let w = c .pre .0 in
-    (w .table, c .pre .1, row-fixed _ _ (w .table) (w .all-fixed) (row c))
+lowest-shape-requires : tie.Need-lowest-shape-requires
+lowest-shape-requires c κs = (c .pre .0 .table, c .pre .1)
 
 origin-requires : tie.Need-origin-requires
 origin-requires c κs = let s = c .before in (s .pre .0 .accepted, s .pre .0 .table, s .pre .1)
@@ -59,7 +58,7 @@ cut-box-requires c κs =
       table = w .table;
       outline = w .outline;
       row = i;
-      shape = w .table .boxed _ _ (i .from) (i .upto) (held _ _ (c .before .before .shape-of .ensures));
+      shape = w .table .boxed _ _ (i .from) (i .upto) (c .before .before .lowest-shape .ensures .held);
     }
 
 holds-requires : tie.Need-holds-requires
@@ -72,7 +71,7 @@ returns c =
     let w = s .pre .0 in
     record {
       clear = λ e. clash e refl;
-      bad = λ e. bad-cut _ _ (w .table) (w .all-fixed) (row s) (sole h) _ (found h .origin .ensures) (boxed h ∙ not-true (c .if1 .taken));
+      bad = λ e. bad-cut _ _ (row s) (sole h) _ (found h .origin .ensures) (boxed h ∙ not-true (c .if1 .taken));
     }
 
 is-forbidden-requires : tie.Need-is-forbidden-requires
@@ -84,7 +83,7 @@ is-forbidden-requires c κs =
     record {
       sheet = w;
       row = i;
-      shape = w .table .boxed _ _ (i .from) (i .upto) (held _ _ (sole h));
+      shape = w .table .boxed _ _ (i .from) (i .upto) (found h .before .lowest-shape .ensures .held);
       near = in-small _ _ (h .before .cut-box .ensures .small) (in-cut h ∙ not-false (c .if1 .left));
     }
 
@@ -96,7 +95,7 @@ returns-2 c =
     let inside = and-true (boxed h ∙ not-false (c .before .if1 .left)) in
     record {
       clear = λ e. record {
-        shape = found h .before .shape-of .result;
+        shape = found h .before .lowest-shape .result;
         point = found h .origin .result;
         sole = sole h;
         at = found h .origin .ensures;
@@ -104,7 +103,7 @@ returns-2 c =
         rooms = inside .1;
         free = sym (c .is-forbidden .ensures) ∙ not-true e;
       };
-      bad = λ e. bad-before _ _ (w .table) (w .all-fixed) (row s) (sole h) _ (found h .origin .ensures)
+      bad = λ e. bad-before _ _ (row s) (sole h) _ (found h .origin .ensures)
           (sym (c .is-forbidden .ensures) ∙ not-false e);
     }
 
@@ -112,7 +111,7 @@ pub row-stands-spec : {M : Type 1} → statement M
 row-stands-spec =
     tie.close
     (tie.spec
-    shape-of-requires
+    lowest-shape-requires
     origin-requires
     axes-of-requires
     cut-box-requires

@@ -41,7 +41,7 @@ fn brick_of(block: &[i64], table: &[i64], r: Place, i: Place, b: Place) -> Brick
     Brick { from, size }
 }
 
-// Marks the cells of row i.
+// Marks the cells of row i, which is fixed: its lowest shape is its one shape.
 fn mark_row(
     block: &[i64],
     table: &[i64],

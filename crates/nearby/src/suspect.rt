@@ -61,7 +61,7 @@ pub(crate) fn put_suspect(suspects: &mut [i64], e: usize, r: usize, j: usize, ar
 }
 
 // What forbids p among the suspects whose area holds it, or where the list is not whole among all rules and rows. A row with one shape, as most
-// have, is asked about by that shape alone. Either region is handed back where it is found: one that may come of two calls is copied once more.
+// have, is asked about by that shape alone. Either region is handed back where it is found, since one that may come of two calls is copied.
 pub(crate) fn suspected_region(
     block: &[i64],
     table: &[i64],

@@ -1,4 +1,5 @@
 // Judging a fixed row against the rows before it: of two rows that clash the later one is found bad, so each pair is looked at once.
+// The lowest shape of a fixed row's set is its one shape.
 ghost use mathlib.Core.Path.{_≡_};
 ghost use Prim.Native.Nat.{_<_};
 ghost use Rattle.sheet.specs.Layout.{rules};

@@ -182,24 +182,30 @@ add-e c = omega (arith, room (c .before .before))
 loop-less : tie.Need-loop-less Inv-loop μ-loop
 loop-less c = omega (arith, c .before .before .loop-test .taken)
 
-loop-again : tie.Need-loop-again Inv-loop μ-loop
-loop-again c =
-    let h = c .before in
-    let l = h .before in
+-- the suspect at hand forbids nothing: its one shape misses, or its set does, or its area does not hold the point
+silent : (c : tie.Joined2 Inv-loop μ-loop) → let l = c .before .before in let a = start l .args in
+    Silent (now (a .block)) (now (a .table)) (now (a .suspects)) (a .p) (a .nearby .s) (at l)
+silent c i e =
+    let l = c .before .before in
     let a = start l .args in
-    let block = now (a .block) in
     let list = now (a .suspects) in
-    let silent : Silent block (now (a .table)) list (a .p) (a .nearby .s) (at l) = λ i e. ⊎-elim
+    ⊎-elim
     (λ w. of-suspect _ _ i _ list (at l) _ (w .2 .ensures .1 ∙ w .1 .ensures) (w .4 .ensures .1 ∙ w .3 .ensures)
     ∙ miss (by-lowest _ _ i _ _ (w .5 .ensures) (w .6 .taken) (w .7 .ensures) (w .8 .ensures i)) (w .9 .left))
     (⊎-elim
-    (λ w. of-suspect _ _ i _ list (at l) _ (w .2 .ensures .1 ∙ w .1 .ensures) (w .4 .ensures .1 ∙ w .3 .ensures) ∙ miss (w .7 .ensures i) (w .8 .left))
-    (λ w. clash (h .area-holds .ensures
+    (λ w. of-suspect _ _ i _ list (at l) _ (w .2 .ensures .1 ∙ w .1 .ensures) (w .4 .ensures .1 ∙ w .3 .ensures)
+    ∙ miss (w .7 .ensures i) (w .8 .left))
+    (λ w. clash (c .before .area-holds .ensures
     ∙ ap (λ (k : ℕ). inArea k (suspectArea list (at l)) (a .p)) (l .before .before .before .before .axes-of .ensures) ∙ e) (w .left)))
-    (c .if2 .came) in (
+    (c .if2 .came)
+
+loop-again : tie.Need-loop-again Inv-loop μ-loop
+loop-again c =
+    let l = c .before .before in
+    let a = start l .args in (
       omega (arith, l .loop-test .taken),
       λ m h. ⊎-elim
-          (λ q. subst (Silent block (now (a .table)) list (a .p) (a .nearby .s)) (sym q) silent)
+          (λ q. subst (Silent (now (a .block)) (now (a .table)) (now (a .suspects)) (a .p) (a .nearby .s)) (sym q) (silent c))
           (λ k. l .before .loop .inv .1 m k)
           (last-or (subst (λ (n : ℕ). m < n) (add-one (at l)) h)),
     )

@@ -1,5 +1,5 @@
 -- Laws of the tests over the numbers below n: what a loop needs, what a passed test says, and a test from its cases;
--- sums; the first and the last number that passes. Assumes nothing.
+-- sums; the first and the last number that passes; the first value that is something. Assumes nothing.
 use mathlib.Core.Path.{_≡_, refl, sym, ap, ap₂, _∙_, subst}
 use mathlib.Core.Logic.{_⊎_, inl, inr, ⊎-elim}
 use mathlib.Core.Bool.{Bool, true, false, not, cond, _&&_, _||_, or-comm}
@@ -10,7 +10,7 @@ use native.Mathlib.Numerals.{add-one}
 use native.Mathlib.Omega.{arith}
 use lib.Dec.{eqb, ltb}
 use borrow.Author.Tests.{ltb-true, ltb-false, eqb-true, eqb-false}
-use Rattle.integers.specs.Below.{allBelow, anyBelow, allUpTo, anyUpTo, UpTo, sumBelow, leastBelow, greatestBelow}
+use Rattle.integers.specs.Below.{allBelow, anyBelow, allUpTo, anyUpTo, UpTo, sumBelow, leastBelow, greatestBelow, firstSome}
 use Rattle.integers.proofs.Booleans.{clash, decide, fails, and-true, true-and, or-true, or-left, or-right, nor}
 
 -- ---- numbers, one of two cases
@@ -216,3 +216,40 @@ greatest-view (suc n) f = step (greatest-view n f) (f n) refl
       last = λ i h t. ⊎-elim (λ p. clash (ap f (sym p) ∙ t) e) (λ l. w .last i l t) (last-or h);
     }
     step (inr w) false e = inr (ap₂ next e (w .0), none-more f (w .1) e)
+
+-- ---- the first that is something
+pub record First {ℓ} {A : Type ℓ} (n : ℕ) (f : ℕ → Option A) : Type ℓ where
+  pub value : A
+  pub is : firstSome n f ≡ some value
+  pub at : ℕ
+  pub below : at < n
+  pub there : f at ≡ some value
+  pub before : (i : ℕ) → i < at → f i ≡ none
+
+pub first-view {ℓ} : {A : Type ℓ} (n : ℕ) (f : ℕ → Option A) → First n f ⊎ ((firstSome n f ≡ none) × ((i : ℕ) → i < n → f i ≡ none))
+unfolding firstSome
+first-view zero f = inr (refl, λ i h. absurd (not-suc-le-zero h))
+first-view {A = A} (suc n) f = step (first-view n f) (f n) refl
+  where
+    next : Option A → Option A → Option A
+    next o l = elim o [ some x ↦ some x | none ↦ l ]
+
+    step : First n f ⊎ ((firstSome n f ≡ none) × ((i : ℕ) → i < n → f i ≡ none)) → (l : Option A) → f n ≡ l
+        → First (suc n) f ⊎ ((next (firstSome n f) (f n) ≡ none) × ((i : ℕ) → i < suc n → f i ≡ none))
+    step (inl w) l e = inl record {
+      value = w .value;
+      is = ap (λ (o : Option A). next o (f n)) (w .is);
+      at = w .at;
+      below = omega (arith, w .below);
+      there = w .there;
+      before = w .before;
+    }
+    step (inr w) (some x) e = inl record {
+      value = x;
+      is = ap₂ next (w .0) e;
+      at = n;
+      below = omega arith;
+      there = e;
+      before = w .1;
+    }
+    step (inr w) none e = inr (ap₂ next (w .0) e, λ i h. ⊎-elim (λ p. ap f p ∙ e) (λ l. w .1 i l) (last-or h))

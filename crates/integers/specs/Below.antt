@@ -58,6 +58,11 @@ foremost before (suc n) p f =
     let rest = foremost before n p f in
     cond (p n) (some (elim rest [ some z ↦ cond (before z (f n)) z (f n) | none ↦ f n ])) rest
 
+-- the first of f 0 to f (n − 1) that is something
+unfoldable pub firstSome {ℓ} : {A : Type ℓ} → ℕ → (ℕ → Option A) → Option A
+firstSome zero f = none
+firstSome (suc n) f = elim (firstSome n f) [ some x ↦ some x | none ↦ f n ]
+
 -- the value, or x where there is none
 unfoldable pub valueOr {ℓ} : {A : Type ℓ} → A → Option A → A
 valueOr x none = x

@@ -1,6 +1,6 @@
 -- Integers: reading one as a count, its two parts, the tests that compute, and bounds on its size.
 -- Assumes nothing.
-use mathlib.Core.Bool.{Bool, false, _&&_}
+use mathlib.Core.Bool.{Bool, false, cond, _&&_}
 use Prim.Native.Nat.{ℕ, zero, suc, _+_, _≤_}
 use lib.Dec.{eqb}
 use lib.IntN.{ℤ, pos, negsuc, negℤ, _+ℤ_, _-ℤ_}
@@ -33,6 +33,13 @@ eqZ (negsuc a) (negsuc b) = eqb a b
 -- z is from a to b, both included
 unfoldable pub within : ℤ → ℤ → ℤ → Bool
 within a b z = leZ a z && leZ z b
+
+-- the larger and the lesser of two
+unfoldable pub larger : ℤ → ℤ → ℤ
+larger a b = cond (leZ a b) b a
+
+unfoldable pub lesser : ℤ → ℤ → ℤ
+lesser a b = cond (leZ a b) a b
 
 -- how many integers lie from a to b
 unfoldable pub width : ℤ → ℤ → ℕ

@@ -16,8 +16,13 @@ pub mod NarrowsOnce
 pub mod Inside
 pub mod Steps
 pub mod Local
+pub mod Cuts
+pub mod Numbers
 pub mod Demand3
 pub mod GoodSettled
+pub mod Places
+pub mod Precedes
+pub mod FirstLayout
 pub mod Rounding
 pub mod Fill
 pub mod Cells

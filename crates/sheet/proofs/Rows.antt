@@ -19,7 +19,7 @@ use Rattle.sheet.specs.Layout.{axes, rowLen, rowAt, rows, shapeSet, low,
 use Rattle.sheet.specs.Accepted.{Rows}
 
 module _ (block : List ℤ) where
-  row-before : {q i : ℕ} → 1 ≤ q → q < i → rowAt block q + rowLen block ≤ rowAt block i
+  pub row-before : {q i : ℕ} → 1 ≤ q → q < i → rowAt block q + rowLen block ≤ rowAt block i
   unfolding rowAt
   row-before {q = zero} h l = absurd (not-suc-le-zero h)
   row-before {q = suc a} {i = zero} h l = absurd (not-suc-le-zero l)

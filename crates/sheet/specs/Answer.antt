@@ -21,6 +21,8 @@ use Rattle.sheet.specs.declared.Standing.{Standing}
 use Rattle.sheet.specs.declared.Standing.the-variants as R
 use Rattle.sheet.specs.declared.Share.{Share}
 use Rattle.sheet.specs.declared.Share.the-variants as F
+use Rattle.sheet.specs.declared.Layout.{Layout}
+use Rattle.sheet.specs.declared.Layout.the-variants as L
 
 unfoldable pub pointAnswer : ℕ → Bool → PointTest
 pointAnswer zero true = P.Allowed
@@ -55,7 +57,12 @@ unfoldable pub fillAnswer : ℕ → ℕ → ℕ → Share
 fillAnswer zero c p = F.Of (pos c) (pos p)
 fillAnswer (suc g) c p = F.Refused (pos (suc g))
 
--- the table after narrowing or settling: unchanged where it is refused or nothing is left
+unfoldable pub layoutAnswer : ℕ → Option (List ℤ) → Layout
+layoutAnswer zero (some p) = L.Placed
+layoutAnswer zero none = L.Nothing
+layoutAnswer (suc g) o = L.Refused (pos (suc g))
+
+-- the table after narrowing, settling or placing: unchanged where it is refused or nothing is left
 unfoldable pub tableAfter : ℕ → List ℤ → Option (List ℤ) → List ℤ
 tableAfter zero table o = valueOr table o
 tableAfter (suc g) table o = table

@@ -30,6 +30,13 @@ blockMost = 1507
 abbrev pub tableMost : ℕ
 tableMost = 288
 
+-- and, where the first layout is looked for (T-06), of rows and of a table
+abbrev pub layoutRowsMost : ℕ
+layoutRowsMost = 8
+
+abbrev pub layoutTableMost : ℕ
+layoutTableMost = 72
+
 module _ (block : List ℤ) where
   abbrev blockWord : ℕ → ℤ
   blockWord at = word block at

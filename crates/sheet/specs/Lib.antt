@@ -4,6 +4,8 @@ pub mod Placement
 pub mod Bounds
 pub mod Narrow
 pub mod Settle
+pub mod Cuts
+pub mod FirstLayout
 pub mod Relation
 pub mod Fill
 pub mod Cells
@@ -18,3 +20,4 @@ pub mod RelationPositions
 pub mod ClearancePositions
 pub mod SeveralPositions
 pub mod FillPositions
+pub mod LayoutPositions

@@ -18,6 +18,7 @@ use Rattle.sheet.specs.Placement.{good, catalogueGood}
 use Rattle.sheet.specs.Bounds.{leastOf}
 use Rattle.sheet.specs.Narrow.{narrowOf}
 use Rattle.sheet.specs.Settle.{settleOf}
+use Rattle.sheet.specs.FirstLayout.{firstOf}
 use Rattle.sheet.specs.Refusal.{refusal, refusalPlacement}
 
 -- ---- what is asked of a sheet, and the answer
@@ -33,6 +34,8 @@ pub data Question : Type 0 where
   -- how many placements lie inside the table, and how many of them are good
   hasLayouts : (placements layouts : ℕ) → Question
   isGood : Bool → Question
+  -- the first good placement inside the table (document 02, T-06)
+  placesFirst : Option (List ℤ) → Question
 
 pub record Case : Type 0 where
   pub block : List ℤ
@@ -89,6 +92,7 @@ answered block table (hasLayouts placements layouts) =
     eqb (placementsBy block table (λ p. eqb (refusalPlacement block p) 0)) placements && eqb (placementsBy block table (good block)) layouts
 answered block table (isGood b) =
     eqb (refusalPlacement block table) 0 && sameTruth (good block table) b && sameTruth (catalogueGood block table) b
+answered block table (placesFirst p) = sameTable (firstOf block table) p
 
 -- the sheet is accepted, and the answer is right
 unfoldable pub passes : Case → Bool

@@ -1,4 +1,4 @@
--- Document 01, "Grounds for turning a sheet away, in checking order": the checks 2 to 12, and 13 to 15 of document 02's T-03; the first
+-- Document 01, "Grounds for turning a sheet away, in checking order": the checks 2 to 12, and of document 02 13 to 15 (T-03) and 16 (T-06); the first
 -- that applies for each kind of call (a refusal is the document's ground; 0 means that none applies), and the row slice. Row, shape, dimension
 -- and rule that are asked about are words; they are read as numbers once their checks have passed. Check 1 is in Text.antt. Assumes nothing.
 use mathlib.Core.Bool.{Bool, true, false, not, _&&_, _||_}
@@ -11,7 +11,7 @@ use lib.Signed.{leZ, ltZ}
 use Rattle.integers.specs.Integer.{nat, within}
 use Rattle.integers.specs.Below.{allBelow, allUpTo}
 use Rattle.integers.specs.Words.{word}
-use Rattle.sheet.specs.Layout.{dims, axes, boxes, rules, rowLen, blockLen, rowAt, validBox, validRule, rows, hasShape, validRow}
+use Rattle.sheet.specs.Layout.{layoutRowsMost, dims, axes, boxes, rules, rowLen, blockLen, rowAt, validBox, validRule, rows, hasShape, validRow}
 use Rattle.sheet.specs.Placement.{fixed, good}
 use Rattle.sheet.specs.Fill.{ruleAsked, isFillRule, roomCells}
 
@@ -89,6 +89,10 @@ module _ (block : List ℤ) where
     unfoldable pub notGood : Bool
     notGood = not (good block table)
 
+    -- 16: more than eight rows
+    unfoldable pub tooManyRows : Bool
+    tooManyRows = ltb layoutRowsMost (rows block table)
+
     -- ---- the first that applies: for a call that is given a sheet
     unfoldable pub refusal : ℕ
     refusal =
@@ -120,6 +124,10 @@ module _ (block : List ℤ) where
     unfoldable pub refusalFill : ℤ → ℕ
     refusalFill rule = refusalPlacement else 13 when noFillRule rule else 14 when badCells (ruleAsked rule) else 15 when notGood
 
+    -- and is to be laid out whole (T-06)
+    unfoldable pub refusalLayout : ℕ
+    refusalLayout = refusal else 16 when tooManyRows
+
     -- ---- the row slice: the part of the table where the row stands; empty when refused
     unfoldable pub sliceUnless : ℕ → ℕ → List ℤ
     sliceUnless zero i = take (rowLen block) (drop (rowAt block i) table)
@@ -139,6 +147,6 @@ module _ (block : List ℤ) where
 -- one name that opens every definition above: `unfolding refusing`
 unfoldable pub refusing : Unit {0}
 unfolding _when_ _else_ badHead badCounts badBlockLength badBox noBoxDim noFillRule badCells badTableLength badRule badRow noSuchRow
-    noSuchShape noSuchDim notFixed notGood refusal refusalRow refusalShape refusalDim refusalPlacement refusalRelation refusalFill
-    sliceUnless rowSlice startUnless rowStart
+    noSuchShape noSuchDim notFixed notGood tooManyRows refusal refusalRow refusalShape refusalDim refusalPlacement refusalRelation
+    refusalFill refusalLayout sliceUnless rowSlice startUnless rowStart
 refusing = tt

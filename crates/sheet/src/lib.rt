@@ -21,6 +21,11 @@ pub const BLOCK_WORDS: usize = 3 + BOXES * (1 + 2 * DIMS) + RULES * RECORD_WORDS
 
 pub const TABLE_WORDS: usize = ROWS * (1 + 2 * AXES);
 
+// The most rows of a sheet whose first layout is looked for (document 02, T-06), and the most words of its table.
+pub const LAYOUT_ROWS: usize = 8;
+
+pub const LAYOUT_WORDS: usize = LAYOUT_ROWS * (1 + 2 * AXES);
+
 // ---- answers
 
 // Whether a row with a shape is allowed at a point.
@@ -88,5 +93,14 @@ pub enum Standing {
 // How many cells of the room are covered, and how many thousandths of it they are.
 pub enum Share {
     Of(i64, i64),
+    Refused(i64),
+}
+
+// ---- the first whole layout (document 02, T-06)
+
+// Whether a good placement lies inside the table; the first of them is then written over it.
+pub enum Layout {
+    Placed,
+    Nothing,
     Refused(i64),
 }

@@ -213,6 +213,53 @@ impl<'a> Brute<'a> {
         }
         unreachable!()
     }
+
+    /// A fixed placement is good.
+    pub fn good(&self, table: &[i64]) -> bool {
+        (1..=self.rows(table)).all(|i| {
+            let p = self.points(table, i)[0];
+            self.allowed(table, i, 1 + self.set(table, i).trailing_zeros() as usize, &p)
+        })
+    }
+
+    /// The first good placement inside the table in document 02's order (T-06): every one is tried in turn.
+    pub fn first_layout(&self, table: &[i64]) -> Option<Vec<i64>> {
+        let mut placed = table.to_vec();
+        for row in placed.chunks_exact_mut(row_len(self.k)) {
+            row[0] &= -row[0];
+            row[1..].chunks_exact_mut(2).for_each(|range| range[1] = range[0]);
+        }
+        while !self.good(&placed) {
+            if !self.advance(table, &mut placed) {
+                return None;
+            }
+        }
+        Some(placed)
+    }
+
+    /// Takes a placement inside the table to the next one; false where it is the last. The last number with a higher
+    /// value in the table takes the next, and those behind it their least.
+    fn advance(&self, table: &[i64], placed: &mut [i64]) -> bool {
+        let rows = table.chunks_exact(row_len(self.k)).zip(placed.chunks_exact_mut(row_len(self.k)));
+        for (open, row) in rows.rev() {
+            for d in (0..self.k).rev() {
+                let (low, high) = (1 + 2 * d, 2 + 2 * d);
+                let next = if row[low] < open[high] { row[low] + 1 } else { open[low] };
+                let moved = next > row[low];
+                (row[low], row[high]) = (next, next);
+                if moved {
+                    return true;
+                }
+            }
+            let higher = open[0] & !(2 * row[0] - 1);
+            let left = if higher != 0 { higher } else { open[0] };
+            row[0] = left & -left;
+            if higher != 0 {
+                return true;
+            }
+        }
+        false
+    }
 }
 
 #[cfg(kernel)]
@@ -257,14 +304,6 @@ impl Brute<'_> {
     pub fn is_fixed(&self, table: &[i64]) -> bool {
         (1..=self.rows(table)).all(|i| {
             self.set(table, i).count_ones() == 1 && (0..self.k).all(|d| self.low(table, i, d) == self.high(table, i, d))
-        })
-    }
-
-    /// A fixed placement is good.
-    pub fn good(&self, table: &[i64]) -> bool {
-        (1..=self.rows(table)).all(|i| {
-            let p = self.points(table, i)[0];
-            self.allowed(table, i, 1 + self.set(table, i).trailing_zeros() as usize, &p)
         })
     }
 }

@@ -2,7 +2,7 @@
 //! look like an office's: rows packed in a room, some fixed, some free, and chains of rows that push each
 //! other. The same parameters and seed give the same words on every machine.
 
-use crate::sheet::{Builder, Sheet, MAX_BOXES, MAX_CLEARANCE, MAX_SHAPES};
+use crate::sheet::{row_len, Builder, Sheet, MAX_BOXES, MAX_CLEARANCE, MAX_SHAPES};
 
 /// SplitMix64.
 pub struct Random(u64);
@@ -102,6 +102,58 @@ pub fn small_sheet(seed: u64) -> Sheet {
         sheet.add_row(set, &low, &high);
     }
     sheet.build()
+}
+
+/// A small sheet of pieces of a room, which fill it, or almost, or lack a little; in some sheets they may be turned.
+pub fn tight_sheet(seed: u64) -> Sheet {
+    let random = &mut Random::new(seed);
+    let k = random.range(1, 3) as usize;
+    let room = point(|_| random.range(5 - k as i64, [8, 4, 3][k - 1]));
+    let n = random.range(3, 5) as usize;
+    let mut pieces = vec![room];
+    while pieces.len() < n {
+        let i = random.range(0, pieces.len() as i64 - 1) as usize;
+        let d = random.range(0, k as i64 - 1) as usize;
+        let mut rest = pieces[i];
+        if rest[d] > 1 {
+            pieces[i][d] = random.range(1, rest[d] - 1);
+            rest[d] -= pieces[i][d];
+            pieces.push(rest);
+        }
+    }
+    random.shuffle(&mut pieces);
+    let turned = k > 1 && random.chance(30);
+    let low = point(|_| random.range(-3, 3));
+    let high = point(|d| low[d] + room[d] + [-1, 0, 0, 0, 1][random.range(0, 4) as usize]);
+    let mut sheet = Builder::new(k);
+    sheet.add_apart((1 << k) - 1, (1 << n) - 1, &[0; 4]);
+    sheet.add_inside((1 << k) - 1, (1 << n) - 1, &low, &high);
+    for (i, piece) in pieces.iter().enumerate() {
+        sheet.add_box(2 * i + 1, &[0; 4], piece);
+        sheet.add_box(2 * i + 2, &[0; 4], &[piece[1], piece[0], piece[2], 1]);
+        let shortest = *piece[..k].iter().min().unwrap();
+        let last = point(|d| low[d].max(high[d] - shortest));
+        sheet.add_row(if turned { 3 } else { 1 } << (2 * i), &low, &last);
+    }
+    sheet.build()
+}
+
+/// The sheet with values of its rows left out by chance, at the ends, until its table holds at most so many placements.
+pub fn cut_down(mut sheet: Sheet, most: i64, random: &mut Random) -> Sheet {
+    let (k, words) = (sheet.block[0], row_len(sheet.block[0] as usize));
+    let width = |range: &[i64]| range[1] - range[0] + 1;
+    let values = |row: &[i64]| row[0].count_ones() as i64 * row[1..].chunks_exact(2).map(width).product::<i64>();
+    while sheet.table.chunks_exact(words).map(values).product::<i64>() > most {
+        let place = random.range(0, (sheet.table.len() / words) as i64 - 1) as usize;
+        let row = &mut sheet.table[place * words..][..words];
+        let (column, from_below) = (random.range(0, k) as usize, random.chance(50));
+        match &mut row[(2 * column).saturating_sub(1)..] {
+            [set, ..] if column == 0 && set.count_ones() > 1 => *set -= if from_below { *set & -*set } else { 1 << set.ilog2() },
+            [low, high, ..] if column > 0 && low < high => *if from_below { low } else { high } += if from_below { 1 } else { -1 },
+            _ => {}
+        }
+    }
+    sheet
 }
 
 /// One line of the benchmark's table.

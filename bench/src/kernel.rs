@@ -63,6 +63,7 @@ mod c {
         pub fn zk_row_span(block: Words, b: usize, table: Words, t: usize, row: i64) -> Span;
         pub fn zk_relation(block: Words, b: usize, table: Words, t: usize, row: i64, other: i64, dim: i64) -> Standing;
         pub fn zk_fill(block: Words, b: usize, table: Words, t: usize, rule: i64) -> Share;
+        pub fn zk_first_layout(block: Words, b: usize, table: *mut i64, t: usize) -> i64;
     }
 }
 
@@ -124,4 +125,8 @@ pub fn relation(block: &[i64], table: &[i64], row: i64, other: i64, dimension: i
 
 pub fn fill(block: &[i64], table: &[i64], rule: i64) -> Share {
     unsafe { c::zk_fill(block.as_ptr(), block.len(), table.as_ptr(), table.len(), rule) }
+}
+
+pub fn first_layout(block: &[i64], table: &mut [i64]) -> i64 {
+    unsafe { c::zk_first_layout(block.as_ptr(), block.len(), table.as_mut_ptr(), table.len()) }
 }

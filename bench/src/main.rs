@@ -7,11 +7,13 @@ mod brute;
 #[cfg(kernel)]
 mod calls;
 mod decode;
+mod families;
 #[cfg(kernel)]
 mod fill;
 mod generate;
 #[cfg(kernel)]
 mod kernel;
+mod layout;
 mod plain;
 #[cfg(kernel)]
 mod relation;
@@ -59,12 +61,14 @@ fn main() -> ExitCode {
         ["--relation"] => relation::table(),
         #[cfg(kernel)]
         ["--fill"] => fill::table(),
+        ["--layout"] => layout::table(),
         ["--against", this, other] => against::table(this, other),
         ["--selftest"] => selftest::run(40_000),
         ["--selftest", count] => selftest::run(count.parse().expect("a number of sheets")),
         _ => {
             eprintln!(
-                "words: [--quick] [--only START], or --relation, or --fill, or --against LIBRARY LIBRARY, or --selftest [COUNT]"
+                "words: [--quick] [--only START], or --relation, or --fill, or --layout, or --against LIBRARY LIBRARY, \
+                 or --selftest [COUNT]"
             );
             ExitCode::from(2)
         }
@@ -123,8 +127,8 @@ fn agreed(sheet: &Sheet) -> Result<(i64, usize), String> {
     Ok((finding, tuned::list::narrowings(&sheet.block, &sheet.table)))
 }
 
-/// Microseconds a settle, for each subject: the least of the batches, the subjects taking turns.
-fn measure(sheet: &Sheet, effort: &Effort) -> Vec<f64> {
+/// Microseconds a call, for each subject: the least of the batches, the subjects taking turns.
+fn measure(subjects: &[(&str, Settle)], sheet: &Sheet, effort: &Effort) -> Vec<f64> {
     let mut work = sheet.table.clone();
     let mut run = |settle: Settle, times: u32| {
         let begin = Instant::now();
@@ -134,7 +138,7 @@ fn measure(sheet: &Sheet, effort: &Effort) -> Vec<f64> {
         }
         begin.elapsed()
     };
-    let (times, mut used): (Vec<u32>, Vec<Duration>) = SUBJECTS
+    let (times, mut used): (Vec<u32>, Vec<Duration>) = subjects
         .iter()
         .map(|(_, settle)| {
             let mut times = 1;
@@ -149,7 +153,7 @@ fn measure(sheet: &Sheet, effort: &Effort) -> Vec<f64> {
         .unzip();
     let mut least: Vec<f64> = used.iter().zip(&times).map(|(time, &n)| time.as_secs_f64() * 1e6 / n as f64).collect();
     for _ in 0..effort.batches {
-        for (s, (_, settle)) in SUBJECTS.iter().enumerate() {
+        for (s, (_, settle)) in subjects.iter().enumerate() {
             if used[s] < effort.most {
                 let time = run(*settle, times[s]);
                 used[s] += time;
@@ -212,7 +216,7 @@ fn table(effort: &Effort, start: &str) -> ExitCode {
                     return ExitCode::FAILURE;
                 }
             }
-            each.push(measure(sheet, effort));
+            each.push(measure(SUBJECTS, sheet, effort));
         }
         let mean: Vec<f64> =
             (0..SUBJECTS.len()).map(|s| each.iter().map(|times| times[s]).sum::<f64>() / sheets.len() as f64).collect();

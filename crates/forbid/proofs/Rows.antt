@@ -10,13 +10,12 @@ use native.Mathlib.Omega.{arith}
 use lib.IntN.{ℤ}
 use borrow.Author.Tests.{eq-eqb, ne-eqb}
 use Rattle.integers.specs.Below.{_⇒_, allUpTo, anyUpTo}
-use Rattle.integers.proofs.Booleans.{clash, fails, both-ways, implies-in, implies-out}
+use Rattle.integers.proofs.Booleans.{clash, fails, both-ways, and-left, implies-in, implies-out}
 use Rattle.integers.proofs.Below.{below-or, all-more, upto-at, at-upto, some-upto, upto-some}
 use Rattle.integers.proofs.Sets.{held-only}
 use Rattle.sheet.specs.Layout.{namesRow, rows, shapeSet, hasShape, hasOnly}
 use Rattle.sheet.specs.Allowed.{shapesForbid, setForbids, rowForbids}
 use Rattle.sheet.proofs.Forbidden.{set-at, set-one}
-use Rattle.points.proofs.Cut.{and-left}
 use Rattle.forbid.specs.Region.{rowsForbid}
 
 module _ (block : List ℤ) (t : List ℤ) where

@@ -3,7 +3,7 @@
 -- Assumes nothing.
 use mathlib.Core.Path.{_≡_, refl, sym, _∙_, subst}
 use mathlib.Core.Logic.{_⊎_, inl, inr}
-use mathlib.Core.Bool.{Bool, true, false, not, _&&_, _||_}
+use mathlib.Core.Bool.{Bool, true, false, not, _&&_, _||_, and-comm}
 pub use mathlib.Core.Bool.{or-comm}
 use borrow.Author.Tests as Tests
 use lib.Dec.{T}
@@ -53,6 +53,23 @@ and-true {a = false} {b} e = clash e refl
 
 pub true-and : {a b : Bool} → a ≡ true → b ≡ true → (a && b) ≡ true
 true-and e g = rw (e, g)
+
+-- of two tests the one that implies the other is both
+pub and-left : (a b : Bool) → (a ≡ true → b ≡ true) → a ≡ (a && b)
+and-left a b f = both-ways a (a && b) (λ e. true-and e (f e)) (λ e. and-true {a = a} e .0)
+
+pub and-right : (a b : Bool) → (b ≡ true → a ≡ true) → b ≡ (a && b)
+and-right a b f = and-left b a f ∙ and-comm b a
+
+pub and-swap : (a b c d : Bool) → ((a && b) && (c && d)) ≡ ((a && c) && (b && d))
+and-swap a b c d = both-ways _ _ (turn a b c d) (turn a c b d)
+  where
+    turn : (a b c d : Bool) → ((a && b) && (c && d)) ≡ true → ((a && c) && (b && d)) ≡ true
+    turn a b c d e =
+        let l : (a && b ≡ true) × (c && d ≡ true) = and-true e in
+        let x : (a ≡ true) × (b ≡ true) = and-true (l .0) in
+        let y : (c ≡ true) × (d ≡ true) = and-true (l .1) in
+        true-and (true-and (x .0) (y .0)) (true-and (x .1) (y .1))
 
 -- ---- or
 pub or-true : {a b : Bool} → (a || b) ≡ true → (a ≡ true) ⊎ (b ≡ true)

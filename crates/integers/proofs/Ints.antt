@@ -6,19 +6,19 @@
 --     disjoint z, abs z        for a bound on the size of z
 -- Assumes nothing.
 use mathlib.Core.Path.{_≡_, refl, ap, ap₂, _∙_, subst}
-use mathlib.Core.Logic.{_≢_, _⊎_, inl, inr, ⊎-elim}
+use mathlib.Core.Logic.{_≢_}
 use mathlib.Core.Bool.{Bool, true, false, not, cond, _&&_, _||_}
 use Prim.Native.Nat.{ℕ, zero, suc, _+_, _-_, _^_, _≤_, _<_}
 use native.Mathlib.Omega.{arith}
 use borrow.Author.Tests.{eq-eqb, eqb-true, leb-true, leb-false, ltb-true, ltb-false}
 use lib.Dec.{T, ltb}
 use lib.IntN.{ℤ, pos, negsuc, negℤ, natAbs, _+ℤ_, _-ℤ_, subℕ}
-use lib.Signed.{_≤ℤ_, _<ℤ_, leZ, ltZ, leZ-yes, ltZ-yes, ≤ℤ-refl, mag, nonNeg}
+use lib.Signed.{_≤ℤ_, _<ℤ_, leZ, ltZ, leZ-yes, ltZ-yes, mag, nonNeg}
 use mir.Syntax.{w64}
 use mir.Val.{SFits, toZ, ofZ}
 use mir.Facts.{toZ-ofZ}
-use Rattle.integers.specs.Integer.{up, dn, eqZ, within, larger, lesser}
-use Rattle.integers.proofs.Booleans.{true-T, T-true, clash, both-ways, passes, fails, and-true, true-and, nor, or-comm}
+use Rattle.integers.specs.Integer.{up, dn, eqZ, within, maxZ, minZ}
+use Rattle.integers.proofs.Booleans.{true-T, T-true, clash, passes, fails, and-true, true-and, and-left, and-right, and-swap, nor, or-comm}
 
 -- ---- the tests, as a branch leaves them: what a test says of the parts, and the test from the parts
 pub leZ-true : (a b : ℤ) → leZ a b ≡ true → up a + dn b ≤ up b + dn a
@@ -242,39 +242,24 @@ within-true {a} {b} {z} e = let w : (leZ a z ≡ true) × (leZ z b ≡ true) = a
 pub true-within : {a b z : ℤ} → a ≤ℤ z → z ≤ℤ b → within a b z ≡ true
 true-within h k = omega ints
 
--- ---- the larger and the lesser of two
-pub larger-is : (a b : ℤ) → (a ≤ℤ larger a b) × (b ≤ℤ larger a b) × ((larger a b ≡ a) ⊎ (larger a b ≡ b))
-unfolding larger
-larger-is a b = by (leZ a b) refl
-  where
-    by : (t : Bool) → leZ a b ≡ t → (a ≤ℤ cond t b a) × (b ≤ℤ cond t b a) × ((cond t b a ≡ a) ⊎ (cond t b a ≡ b))
-    by true e = (omega ints, ≤ℤ-refl b, inr refl)
-    by false e = (≤ℤ-refl a, omega ints, inl refl)
-
-pub lesser-is : (a b : ℤ) → (lesser a b ≤ℤ a) × (lesser a b ≤ℤ b) × ((lesser a b ≡ a) ⊎ (lesser a b ≡ b))
-unfolding lesser
-lesser-is a b = by (leZ a b) refl
-  where
-    by : (t : Bool) → leZ a b ≡ t → (cond t a b ≤ℤ a) × (cond t a b ≤ℤ b) × ((cond t a b ≡ a) ⊎ (cond t a b ≡ b))
-    by true e = (≤ℤ-refl a, omega ints, inl refl)
-    by false e = (omega ints, ≤ℤ-refl b, inr refl)
-
 -- one range cut by another
-pub within-both : (a b a' b' z : ℤ) → within (larger a a') (lesser b b') z ≡ (within a b z && within a' b' z)
-within-both a b a' b' z =
-    both-ways _ _
-    (λ e.
-    let w = within-true e in
-    let l = larger-is a a' in
-    let h = lesser-is b b' in
-    true-and {a = within a b z} {b = within a' b' z} (omega ints) (omega ints))
-    (λ e.
-    let p : (within a b z ≡ true) × (within a' b' z ≡ true) = and-true e in
-    let w = within-true (p .0) in
-    let w' = within-true (p .1) in
-    true-within
-    (⊎-elim (λ q. omega ints) (λ q. omega ints) (larger-is a a' .2))
-    (⊎-elim (λ q. omega ints) (λ q. omega ints) (lesser-is b b' .2)))
+le-max : (a b z : ℤ) → leZ (maxZ a b) z ≡ (leZ a z && leZ b z)
+le-max a b z = by (leZ a b) refl
+  where
+    by : (t : Bool) → leZ a b ≡ t → leZ (cond t b a) z ≡ (leZ a z && leZ b z)
+    by true e = and-right (leZ a z) (leZ b z) (λ h. omega ints)
+    by false e = and-left (leZ a z) (leZ b z) (λ h. omega ints)
+
+le-min : (a b z : ℤ) → leZ z (minZ a b) ≡ (leZ z a && leZ z b)
+le-min a b z = by (leZ a b) refl
+  where
+    by : (t : Bool) → leZ a b ≡ t → leZ z (cond t a b) ≡ (leZ z a && leZ z b)
+    by true e = and-left (leZ z a) (leZ z b) (λ h. omega ints)
+    by false e = and-right (leZ z a) (leZ z b) (λ h. omega ints)
+
+pub within-cut : (a b x y z : ℤ) → within (maxZ a x) (minZ b y) z ≡ (within a b z && within x y z)
+unfolding within
+within-cut a b x y z = ap₂ _&&_ (le-max a x z) (le-min b y z) ∙ and-swap (leZ a z) (leZ x z) (leZ z b) (leZ z y)
 
 -- ---- two boxes in one dimension
 -- a test that passes exactly where another fails: b − a = c − d − 1

@@ -144,3 +144,12 @@ replaced-more words at new v h =
     back : take at words ++ new ++ v ∷ drop (suc (at + length new)) words
         ≡ take at words ++ (new ++ (v ∷ []) ++ drop (at + length (new ++ (v ∷ []))) words)
     back = let e : at + length (new ++ (v ∷ [])) ≡ suc (at + length new) = omega (arith, length-append new (v ∷ [])) in rw e (simp append-assoc)
+
+pub replaced-one : (words : List ℤ) (at : ℕ) (v : ℤ) → at < length words → set words at v ≡ replaced words at (v ∷ [])
+replaced-one words at v h =
+    let q : at ≡ at + 0 = omega arith in
+    ap₂ (λ (ws : List ℤ) (n : ℕ). set ws n v) (sym (replaced-none words at)) q ∙ replaced-more words at [] v (omega arith)
+
+pub replaced-two : (words : List ℤ) (at : ℕ) (u v : ℤ) → at + 1 < length words → set (set words at u) (at + 1) v ≡ replaced words at (u ∷ v ∷ [])
+replaced-two words at u v h =
+    ap (λ (ws : List ℤ). set ws (at + 1) v) (replaced-one words at u (omega arith)) ∙ replaced-more words at (u ∷ []) v h

@@ -139,11 +139,11 @@ unfolding setOf
 setOf-zero f = refl
 
 -- the step, by the test
-step-in : {n : ℕ} (f : ℕ → Bool) → f (suc n) ≡ true → setOf (suc n) f ≡ setOf n f + 2 ^ n
+pub step-in : {n : ℕ} (f : ℕ → Bool) → f (suc n) ≡ true → setOf (suc n) f ≡ setOf n f + 2 ^ n
 unfolding setOf
 step-in f e = rw e
 
-step-out : {n : ℕ} (f : ℕ → Bool) → f (suc n) ≡ false → setOf (suc n) f ≡ setOf n f
+pub step-out : {n : ℕ} (f : ℕ → Bool) → f (suc n) ≡ false → setOf (suc n) f ≡ setOf n f
 unfolding setOf
 step-out {n} f e = rw e (add-zero (setOf n f))
 

@@ -35,11 +35,11 @@ unfoldable pub within : ℤ → ℤ → ℤ → Bool
 within a b z = leZ a z && leZ z b
 
 -- the larger and the lesser of two
-unfoldable pub larger : ℤ → ℤ → ℤ
-larger a b = cond (leZ a b) b a
+abbrev pub maxZ : ℤ → ℤ → ℤ
+maxZ a b = cond (leZ a b) b a
 
-unfoldable pub lesser : ℤ → ℤ → ℤ
-lesser a b = cond (leZ a b) a b
+abbrev pub minZ : ℤ → ℤ → ℤ
+minZ a b = cond (leZ a b) a b
 
 -- how many integers lie from a to b
 unfoldable pub width : ℤ → ℤ → ℕ

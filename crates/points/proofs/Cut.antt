@@ -1,7 +1,7 @@
 -- Cuts of areas: they compose, a loop of cuts is a cut by all its tests, and the cut of one dimension. Assumes nothing.
-use mathlib.Core.Path.{_≡_, refl, sym, ap, ap₂, _∙_, subst}
+use mathlib.Core.Path.{_≡_, sym, ap, ap₂, _∙_, subst}
 use mathlib.Core.Logic.{⊎-elim}
-use mathlib.Core.Bool.{Bool, true, false, cond, _&&_, and-assoc, and-comm}
+use mathlib.Core.Bool.{Bool, true, false, cond, _&&_, and-assoc}
 use mathlib.Core.List.{List}
 use Prim.Native.Nat.{ℕ, _+_, _<_}
 use lib.IntN.{ℤ, pos}
@@ -11,29 +11,12 @@ use lib.Signed.{leZ}
 use Rattle.integers.specs.Integer.{within, Within}
 use Rattle.integers.specs.Below.{_⇒_, allBelow}
 use Rattle.integers.specs.Words.{word}
-use Rattle.integers.proofs.Booleans.{both-ways, and-true, true-and, implies-in, implies-out}
+use Rattle.integers.proofs.Booleans.{both-ways, and-true, true-and, and-left, implies-in, implies-out}
 use Rattle.integers.proofs.Below.{same-or, all-at, at-all, all-zero, all-more}
-use Rattle.integers.proofs.Ints.{ints}
+use Rattle.integers.proofs.Ints.{within-cut}
 use Rattle.integers.proofs.Machine.{within-by}
 use Rattle.points.specs.declared.Area.{Area}
 use Rattle.points.specs.Area.{reach, maxZ, minZ, inAt, inArea, Cuts}
-
--- ---- of two tests the one that implies the other is both
-pub and-left : (a b : Bool) → (a ≡ true → b ≡ true) → a ≡ (a && b)
-and-left a b f = both-ways a (a && b) (λ e. true-and e (f e)) (λ e. and-true {a = a} e .0)
-
-pub and-right : (a b : Bool) → (b ≡ true → a ≡ true) → b ≡ (a && b)
-and-right a b f = and-left b a f ∙ and-comm b a
-
-and-swap : (a b c d : Bool) → ((a && b) && (c && d)) ≡ ((a && c) && (b && d))
-and-swap a b c d = both-ways _ _ (turn a b c d) (turn a c b d)
-  where
-    turn : (a b c d : Bool) → ((a && b) && (c && d)) ≡ true → ((a && c) && (b && d)) ≡ true
-    turn a b c d e =
-        let l : (a && b ≡ true) × (c && d ≡ true) = and-true e in
-        let x : (a ≡ true) × (b ≡ true) = and-true (l .0) in
-        let y : (c ≡ true) × (d ≡ true) = and-true (l .1) in
-        true-and (true-and (x .0) (y .0)) (true-and (x .1) (y .1))
 
 -- ---- cuts compose
 module _ {k : ℕ} {a : Area} where
@@ -65,24 +48,6 @@ module _ {k : ℕ} {a : Area} where
   cuts-more {n} F f g = cuts-same (λ p. sym (all-more n (λ m. F m p))) (cuts-then f g)
 
 -- ---- the cut of one dimension
-le-max : (a b z : ℤ) → leZ (maxZ a b) z ≡ (leZ a z && leZ b z)
-le-max a b z = by (leZ a b) refl
-  where
-    by : (t : Bool) → leZ a b ≡ t → leZ (cond t b a) z ≡ (leZ a z && leZ b z)
-    by true e = and-right (leZ a z) (leZ b z) (λ h. omega ints)
-    by false e = and-left (leZ a z) (leZ b z) (λ h. omega ints)
-
-le-min : (a b z : ℤ) → leZ z (minZ a b) ≡ (leZ z a && leZ z b)
-le-min a b z = by (leZ a b) refl
-  where
-    by : (t : Bool) → leZ a b ≡ t → leZ z (cond t a b) ≡ (leZ z a && leZ z b)
-    by true e = and-left (leZ z a) (leZ z b) (λ h. omega ints)
-    by false e = and-right (leZ z a) (leZ z b) (λ h. omega ints)
-
-within-cut : (a b x y z : ℤ) → within (maxZ a x) (minZ b y) z ≡ (within a b z && within x y z)
-unfolding within
-within-cut a b x y z = ap₂ _&&_ (le-max a x z) (le-min b y z) ∙ and-swap (leZ a z) (leZ x z) (leZ z b) (leZ z y)
-
 -- a test of all that asks more at one place
 all-and : {k d : ℕ} (f g : ℕ → Bool) (x : Bool) → d < k → f d ≡ (g d && x) → ((e : ℕ) → (e ≡ d → ⊥) → f e ≡ g e)
     → allBelow k f ≡ (allBelow k g && x)

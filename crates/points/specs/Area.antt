@@ -1,13 +1,13 @@
 -- Areas: boxes of points, given by a low and a high point. Which points an area holds, and what it is to cut one down.
 -- Assumes nothing.
 use mathlib.Core.Path.{_≡_}
-use mathlib.Core.Bool.{Bool, cond, _&&_}
+use mathlib.Core.Bool.{Bool, _&&_}
 use mathlib.Core.List.{List}
 use Prim.Native.Nat.{ℕ, _+_, _<_}
 use lib.IntN.{ℤ, pos}
 use lib.ListN.{replicate, drop}
-use lib.Signed.{leZ}
 use Rattle.integers.specs.Integer.{minus, within, Within}
+pub use Rattle.integers.specs.Integer.{maxZ, minZ}
 use Rattle.integers.specs.Below.{allBelow}
 use Rattle.integers.specs.Words.{word, listBelow}
 use Rattle.sheet.specs.Layout.{axesMost}
@@ -20,13 +20,6 @@ coordinates = axesMost
 -- no bound of an area is farther from 0
 abbrev pub reach : ℕ
 reach = 3000000
-
--- the larger and the lesser of two integers
-abbrev pub maxZ : ℤ → ℤ → ℤ
-maxZ a b = cond (leZ a b) b a
-
-abbrev pub minZ : ℤ → ℤ → ℤ
-minZ a b = cond (leZ a b) a b
 
 abbrev pub areaBy : List ℤ → List ℤ → Area
 areaBy low high = record { low = low; high = high }

@@ -9,7 +9,7 @@ use lib.Signed.{leZ, _≤ℤ_}
 use Rattle.integers.specs.Integer.{within}
 use Rattle.integers.specs.Below.{_⇒_, allBelow}
 use Rattle.integers.specs.Words.{word}
-use Rattle.integers.proofs.Booleans.{both-ways, and-true, true-and, implies-true, true-implies}
+use Rattle.integers.proofs.Booleans.{both-ways, and-true, true-and, and-right, implies-true, true-implies}
 use Rattle.integers.proofs.Below.{all-at, at-all}
 use Rattle.integers.proofs.Ints.{ints, lin, v, _⊕_, _⊖_, within-true, true-within}
 use Rattle.integers.proofs.Machine.{within-between, within-weaken}
@@ -22,7 +22,6 @@ use Rattle.words.specs.Places.{RowPlace}
 use Rattle.points.specs.declared.Area.{Area}
 use Rattle.points.specs.Area.{inArea, InField, Cuts, fieldArea}
 use Rattle.points.proofs.Areas.{in-field, small-field}
-use Rattle.points.proofs.Cut.{and-right}
 use Rattle.outline.specs.Places.{hullOf, startOf, endOf}
 use Rattle.outline.specs.Solids.{Boxes, Hull}
 use Rattle.region.specs.Rooms.{sideContained, shapeContained, CutBox}

@@ -13,7 +13,7 @@ use Rattle.sheet.specs.declared.Settling.{Settling}
 use Rattle.sheet.specs.declared.Settling.the-variants as S
 use Rattle.sheet.proofs.Demand3.{demand-3, demand-3-unique}
 use Rattle.settle.specs.Demand.{Left, Demand3, Promise}
-use Rattle.settle.proofs.Copies.{answer-none, answer-some}
+use Rattle.settle.proofs.Answers.{answer-none, answer-some}
 
 settled-not-none : S.Settled ≡ S.NoLayout → ⊥
 settled-not-none e = let z : _≡_ {A = ℕ} 0 1 = cc in omega arith

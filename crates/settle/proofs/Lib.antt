@@ -1,5 +1,5 @@
 pub mod Worked
 pub mod Turns
 pub mod Steps
-pub mod Copies
+pub mod Answers
 pub mod Demand

@@ -3,21 +3,20 @@
 use mathlib.Core.Path.{_≡_, refl, sym, ap, _∙_, subst, subst⁻¹}
 use mathlib.Core.Logic.{_⊎_, inl, inr, ⊎-elim}
 use mathlib.Core.Bool.{true, false}
-use mathlib.Core.List.{List, [], _∷_, _++_}
+use mathlib.Core.List.{List}
 use Prim.Native.Nat.{ℕ, _+_, _-_, _^_, _≤_, _<_}
 use native.Mathlib.Omega.{arith}
 use lib.IntN.{ℤ, pos}
 use native.Mathlib.Numerals.{add-one}
 use lib.Signed.{mag}
 use mir.Syntax.{w64}
-use mir.Val.{toZ, ofZ}
-use mir.Facts.{toZ-ofZ}
+use mir.Val.{ofZ}
 use Rattle.integers.specs.Integer.{eqZ}
 use Rattle.integers.specs.Words.{word}
 use Rattle.integers.proofs.Ints.{eqZ-eq, eq-eqZ}
 use Rattle.integers.proofs.Machine.{fits-word, bits-lit, bits-not-lit}
-use lib.ListN.{length, getD, set, take}
-use lib.Seq.{getD-set-same, getD-set-other, take-suc, take-suc-set}
+use lib.ListN.{length, set}
+use lib.Seq.{getD-set-same, getD-set-other}
 use Rattle.integers.proofs.Booleans.{clash, fails}
 use Rattle.integers.proofs.Below.{below-or, last-or}
 use Rattle.settle.specs.Todo.{todo, Touched}
@@ -36,14 +35,6 @@ around-same h k (inr p) (inr q) = omega arith
 pub around-met : {n at m : ℕ} → at ≤ n → m < n → (i : ℕ) × (i < n) × Around n (at + i) m
 around-met {n} {at} {m} h k =
     ⊎-elim (λ l. (m + n - at, omega arith, inr (omega arith))) (λ l. (m - at, omega arith, inl (omega arith))) (below-or m at)
-
--- one word more of a run is the other's
-pub take-set : (to from : List ℤ) (at : ℕ) → length to ≡ length from → at < length to → take at to ≡ take at from
-    → mag (getD from at (pos 0)) < 2 ^ 63 → take (at + 1) (set to at (toZ w64 (ofZ w64 (getD from at (pos 0))))) ≡ take (at + 1) from
-take-set to from at e h q m =
-    rw (toZ-ofZ (fits-word (getD from at (pos 0)) m), add-one at)
-    (take-suc-set to at (getD from at (pos 0)) h ∙ ap (λ (l : List ℤ). l ++ (getD from at (pos 0) ∷ [])) q
-    ∙ sym (take-suc from at (pos 0) (omega arith)))
 
 -- ---- whether a row is to be narrowed
 module _ (due : List ℤ) (m : ℕ) where

@@ -148,18 +148,6 @@ fn touched(
     }
 }
 
-// Writes one run over another of the same length.
-fn copy(to: &mut [i64], from: &[i64])
-    requires { ⌜ length (now to) ≡ length (now from) ⌝ }
-    ensures { λ _. ⌜ now (to .exit) ≡ now (from .entry) ⌝ }
-{
-    let mut at = 0;
-    while at < to.len() {
-        to[at] = from[at];
-        at += 1;
-    }
-}
-
 // Narrows rows until none is left that may still move. Where some row has no place the words are those at that moment, and the
 // caller drops them.
 fn settle_rows(
@@ -207,11 +195,11 @@ fn settle_in(
 {
     let n = table.len();
     let mut work = [0i64; TABLE_WORDS];
-    copy(&mut work[..n], table);
+    words::copy(&mut work[..n], table);
     if !settle_rows(block, &mut work[..n], outline, suspects) {
         return Settling::NoLayout;
     }
-    copy(table, &work[..n]);
+    words::copy(table, &work[..n]);
     Settling::Settled
 }
 

@@ -10,12 +10,12 @@ use native.Mathlib.Omega.{arith}
 use lib.Arith.{lt-of-le-ne}
 use lib.ListN.{length}
 use lib.IntN.{ℤ, pos, negsuc}
-use Rattle.integers.specs.Integer.{nat, within, larger, lesser}
+use Rattle.integers.specs.Integer.{nat, within, maxZ, minZ}
 use Rattle.integers.specs.Bits.{holds, setOf}
 use Rattle.integers.specs.Words.{word, replaced}
 use Rattle.integers.proofs.Booleans.{clash, both-ways, and-true, true-and}
 use Rattle.integers.proofs.Below.{same-or, below-or}
-use Rattle.integers.proofs.Ints.{ints, within-both}
+use Rattle.integers.proofs.Ints.{within-cut}
 use Rattle.integers.proofs.Sets.{none-zero, member-ge-1, small-set, holds-setOf, setOf-holds}
 use Rattle.integers.proofs.Lists.{length-replaced, replaced-before, replaced-in, replaced-after}
 use Rattle.sheet.specs.Layout.{axes, rowLen, rowAt, rows, shapeSet, low, high, hasShape}
@@ -147,7 +147,7 @@ module _ (block : List ℤ) (t : List ℤ) (table : Table block t) (i : ℕ) (a 
   unfolding cutTo
   cut-long zero n = shapes-long block t (table .whole) i (n .from) (n .upto) (pos (setOf 32 shapesFrom))
   cut-long (suc d) n =
-      range-long block t (table .whole) i (n .from) (n .upto) d (n .few) (larger (low block t i d) a) (lesser (high block t i d) b)
+      range-long block t (table .whole) i (n .from) (n .upto) d (n .few) (maxZ (low block t i d) a) (minZ (high block t i d) b)
 
   cut-here : (c : ℕ) (z : ℤ) → HasNumber block t i c → isOpen block (cutTo block t i c a b) i c z ≡ (isOpen block t i c z && within a b z)
   unfolding cutTo isOpen hasShape
@@ -167,9 +167,9 @@ module _ (block : List ℤ) (t : List ℤ) (table : Table block t) (i : ℕ) (a 
       into (negsuc m) e = let w : (holds (shapeSet block t i) 0 ≡ true) × (within a b (negsuc m) ≡ true) = and-true e in clash (w .0) (none-zero _)
   cut-here (suc d) z n =
       ap₂ (λ (x y : ℤ). within x y z)
-      (range-low block t (table .whole) i (n .from) (n .upto) d (n .few) (larger (low block t i d) a) (lesser (high block t i d) b))
-      (range-high block t (table .whole) i (n .from) (n .upto) d (n .few) (larger (low block t i d) a) (lesser (high block t i d) b))
-      ∙ within-both (low block t i d) (high block t i d) a b z
+      (range-low block t (table .whole) i (n .from) (n .upto) d (n .few) (maxZ (low block t i d) a) (minZ (high block t i d) b))
+      (range-high block t (table .whole) i (n .from) (n .upto) d (n .few) (maxZ (low block t i d) a) (minZ (high block t i d) b))
+      ∙ within-cut (low block t i d) (high block t i d) a b z
 
   cut-other : (c j e : ℕ) (z : ℤ) → HasNumber block t i c → HasNumber block t j e → (j ≡ i → e ≡ c → ⊥)
       → isOpen block (cutTo block t i c a b) j e z ≡ isOpen block t j e z
@@ -177,7 +177,7 @@ module _ (block : List ℤ) (t : List ℤ) (table : Table block t) (i : ℕ) (a 
   cut-other zero j e z n o ne =
       shapes-other block t (table .whole) i (n .from) (n .upto) (pos (setOf 32 shapesFrom)) j e z (o .from) ne (o .few)
   cut-other (suc d) j e z n o ne =
-      range-other block t (table .whole) i (n .from) (n .upto) d (n .few) (larger (low block t i d) a) (lesser (high block t i d) b)
+      range-other block t (table .whole) i (n .from) (n .upto) d (n .few) (maxZ (low block t i d) a) (minZ (high block t i d) b)
       j e z (o .from) ne (o .few)
 
   -- what is open then

@@ -2,7 +2,7 @@
 -- table, and otherwise one that lies inside and that none inside precedes (`first-finds`); a finding with that property is unique, whatever
 -- finds it and in whatever order it searches (`first-unique`). Assumes nothing.
 use mathlib.Core.Path.{_≡_, refl, sym, ap, _∙_, subst}
-use mathlib.Core.Logic.{_⊎_, inl, inr, ⊎-elim}
+use mathlib.Core.Logic.{⊎-elim}
 use mathlib.Core.Bool.{Bool, true, false, cond}
 use mathlib.Core.List.{List}
 use mathlib.Core.Option.{Option, none, some}
@@ -20,17 +20,17 @@ use Rattle.integers.proofs.Below.{First, first-view, at-upto, last-or, below-or
 use Rattle.integers.proofs.Ints.{ints, sum, disjoint, within-true, true-within}
 use Rattle.integers.proofs.Ranges.{nat-diff, count, count-below}
 use Rattle.integers.proofs.Sets.{member-ge-1, small-set}
-use Rattle.sheet.specs.Layout.{axes, rows, shapeSet, hasShape}
+use Rattle.sheet.specs.Layout.{axes, shapeSet, hasShape}
 use Rattle.sheet.specs.Placement.{rowFixed, fixed, good}
 use Rattle.sheet.specs.Settle.{Inside}
 use Rattle.sheet.specs.Refusal.{refusal}
 use Rattle.sheet.specs.Accepted.{Table}
-use Rattle.sheet.specs.Cuts.{HasNumber, isOpen, number, cutTo}
+use Rattle.sheet.specs.Cuts.{HasNumber, isOpen, number, Single, cutTo}
 use Rattle.sheet.specs.FirstLayout.{Places, perRow, numbers, numberAt, Precedes, FirstLayout, nothing, first, tries, firstFrom, firstOf}
 use Rattle.sheet.proofs.Accepted.{accepted-head, accepted-table}
 use Rattle.sheet.proofs.Inside.{inside-refl, inside-antisym}
 use Rattle.sheet.proofs.Cuts.{cut-out}
-use Rattle.sheet.proofs.Numbers.{has-number, number-least, number-open, inside-open, open-inside, Single, single-fixed}
+use Rattle.sheet.proofs.Numbers.{has-number, number-least, number-open, inside-open, open-inside, single-fixed}
 use Rattle.sheet.proofs.Places.{places-table, own-open, places-open, places-cut, cut-table, cut-inside, cut-places}
 use Rattle.sheet.proofs.Precedes.{position-number, number-position, numbers-same, places-order}
 

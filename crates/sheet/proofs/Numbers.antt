@@ -15,7 +15,7 @@ use Rattle.integers.specs.Integer.{nat}
 use Rattle.integers.specs.Below.{anyUpTo, leastBelow, valueOr, UpTo}
 use Rattle.integers.specs.Bits.{holds}
 use Rattle.integers.proofs.Booleans.{clash, true-and}
-use Rattle.integers.proofs.Below.{Least, least-view, at-all, upto-some}
+use Rattle.integers.proofs.Below.{Least, least-view, at-all, some-upto, upto-some}
 use Rattle.integers.proofs.Ints.{ints, ≤ℤ-trans, within-true, true-within, eq-eqZ}
 use Rattle.integers.proofs.Bits.{bit-one, one-bit}
 use Rattle.integers.proofs.Sets.{none-zero, small-set, living-set, same-only, bit-only}
@@ -23,7 +23,7 @@ use Rattle.sheet.specs.Layout.{axes, rows, shapeSet, low, high, hasShape
 use Rattle.sheet.specs.Placement.{rowFixed, fixed}
 use Rattle.sheet.specs.Settle.{Inside}
 use Rattle.sheet.specs.Accepted.{Table}
-use Rattle.sheet.specs.Cuts.{HasNumber, isOpen, number}
+use Rattle.sheet.specs.Cuts.{HasNumber, isOpen, number, Single}
 use Rattle.sheet.proofs.Accepted.{rows-same}
 use Rattle.sheet.proofs.Fixed.{still, one}
 use Rattle.sheet.proofs.Inside.{inside-table}
@@ -117,27 +117,31 @@ module _ (block : List ℤ) where
           (λ i h k. let w = f .some-open i 0 (record { from = h; upto = k; few = zero-le }) in (nat (w .0), w .1)) ordered
 
   -- ---- fixed tables: one value is open for each number
-  abbrev pub Single : List ℤ → ℕ → ℕ → Type 0
-  Single t i c = (z : ℤ) → isOpen block t i c z ≡ true → z ≡ number block t i c
-
   module _ (t : List ℤ) (table : Table block t) where
-    pub fixed-single : fixed block t ≡ true → (i c : ℕ) → HasNumber block t i c → Single t i c
+    pub only-single : (i : ℕ) → HasNumber block t i 0 → anyUpTo 32 (hasOnly block t i) ≡ true → Single block t i 0
     unfolding isOpen number hasShape hasOnly
-    fixed-single all-fixed i zero n (negsuc m) e = clash e (no-shape-0 t i)
-    fixed-single all-fixed i zero n (pos s) e =
-        let o = one block t all-fixed i (record { from = n .from; upto = n .upto }) in
+    only-single i n only (negsuc m) e = clash e (no-shape-0 t i)
+    only-single i n only (pos s) e =
+        let o = some-upto (hasOnly block t i) only in
         let k = number-open t table i 0 n in
         ap pos (same-only (shapeSet block t i) (o .3) e ∙ sym (same-only (shapeSet block t i) (o .3) k))
-    fixed-single all-fixed i (suc d) n z e =
-        let w = within-true e in
-        let q = still block t all-fixed i (record { from = n .from; upto = n .upto }) d (n .few) in
-        omega ints
+
+    pub still-single : (i d : ℕ) → low block t i d ≡ high block t i d → Single block t i (suc d)
+    unfolding isOpen number
+    still-single i d q z e = let w = within-true e in omega ints
+
+    pub fixed-single : fixed block t ≡ true → (i c : ℕ) → HasNumber block t i c → Single block t i c
+    fixed-single all-fixed i zero n = only-single i n (one-shape-of (record { from = n .from; upto = n .upto }))
+      where
+        one-shape-of : UpTo (rows block t) i → anyUpTo 32 (hasOnly block t i) ≡ true
+        one-shape-of row = let o = one block t all-fixed i row in upto-some (hasOnly block t i) (o .0) (o .1) (o .2) (o .3)
+    fixed-single all-fixed i (suc d) n = still-single i d (still block t all-fixed i (record { from = n .from; upto = n .upto }) d (n .few))
 
     -- and the other way round
     module _ (i : ℕ) (from : 1 ≤ i) (upto : i ≤ rows block t) where
-      one-shape : Single t i 0 → anyUpTo 32 (hasOnly block t i) ≡ true
+      pub single-only : Single block t i 0 → anyUpTo 32 (hasOnly block t i) ≡ true
       unfolding isOpen number hasShape hasOnly holds
-      one-shape single = by (nat (number block t i 0)) refl (number-open t table i 0 (record { from = from; upto = upto; few = zero-le }))
+      single-only single = by (nat (number block t i 0)) refl (number-open t table i 0 (record { from = from; upto = upto; few = zero-le }))
         where
           by : (s : ℕ) → nat (number block t i 0) ≡ s → hasShape block t i s ≡ true → anyUpTo 32 (hasOnly block t i) ≡ true
           by zero q e = clash e (no-shape-0 t i)
@@ -148,10 +152,10 @@ module _ (block : List ℤ) where
                 sole = λ d h. let z = ap nat (single (pos (suc d)) (one-bit (shapeSet block t i) d h)) ∙ q in omega arith;
               })
 
-      pub single-fixed : ((c : ℕ) → c ≤ axes block → Single t i c) → rowFixed block t i ≡ true
+      pub single-fixed : ((c : ℕ) → c ≤ axes block → Single block t i c) → rowFixed block t i ≡ true
       unfolding rowFixed isOpen
       single-fixed single =
-          true-and (one-shape (single 0 zero-le))
+          true-and (single-only (single 0 zero-le))
           (at-all (λ d l.
           let o = table .ordered i d from upto l in
           let a = single (suc d) l (low block t i d) (true-within (≤ℤ-refl _) o) in

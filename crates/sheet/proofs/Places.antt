@@ -1,24 +1,23 @@
 -- Good placements inside a table: a number that is cut keeps those whose number lies from a to b (`places-cut`, `cut-places`), settling keeps
 -- them all (`settle-keeps`, `settle-none`), and a settled table that is fixed is one (`settle-places`). What is cut away makes the extent
 -- smaller (`cut-falls`). Assumes nothing.
-use mathlib.Core.Path.{_≡_, refl, sym, ap, _∙_, subst}
-use mathlib.Core.Logic.{_⊎_, inl, inr, ⊎-elim}
-use mathlib.Core.Bool.{Bool, true, false, _&&_}
+use mathlib.Core.Path.{_≡_, refl, sym, _∙_, subst}
+use mathlib.Core.Logic.{⊎-elim}
+use mathlib.Core.Bool.{true, false}
 use mathlib.Core.List.{List}
-use mathlib.Core.Option.{Option, none, some}
+use mathlib.Core.Option.{none, some}
 use Prim.Native.Nat.{ℕ, _≤_, _<_}
 use native.Mathlib.Omega.{arith}
 use lib.ListN.{length}
 use lib.IntN.{ℤ}
 use Rattle.integers.specs.Integer.{within}
-use Rattle.integers.proofs.Booleans.{clash, and-true, true-and}
-use Rattle.integers.proofs.Below.{same-or}
-use Rattle.sheet.specs.Layout.{axes, rows}
-use Rattle.sheet.specs.Placement.{fixed, good}
+use Rattle.integers.proofs.Booleans.{clash}
+use Rattle.sheet.specs.Layout.{axes}
+use Rattle.sheet.specs.Placement.{fixed}
 use Rattle.sheet.specs.Settle.{Settled, Inside, Settles, extent, settleOf}
 use Rattle.sheet.specs.Refusal.{refusal}
 use Rattle.sheet.specs.Accepted.{Table}
-use Rattle.sheet.specs.Cuts.{HasNumber, isOpen, number, cutTo}
+use Rattle.sheet.specs.Cuts.{HasNumber, isOpen, number, Single, cutTo}
 use Rattle.sheet.specs.FirstLayout.{Places}
 use Rattle.sheet.proofs.Accepted.{accepted-head, accepted-table}
 use Rattle.sheet.proofs.Inside.{inside-trans, inside-falls}
@@ -26,7 +25,7 @@ use Rattle.sheet.proofs.Steps.{settled-table}
 use Rattle.sheet.proofs.GoodSettled.{good-iff-settled}
 use Rattle.sheet.proofs.Demand3.{demand-3, settled-accepted}
 use Rattle.sheet.proofs.Cuts.{spot-or, cut-long, cut-in, cut-out}
-use Rattle.sheet.proofs.Numbers.{has-number, number-open, inside-open, Fewer, open-inside, open-table, Single}
+use Rattle.sheet.proofs.Numbers.{has-number, number-open, inside-open, Fewer, open-inside, open-table}
 use Rattle.sheet.proofs.Numbers.{fixed-single}
 
 module _ (block : List ℤ) (some-axes : 0 < axes block) where

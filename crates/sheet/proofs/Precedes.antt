@@ -1,11 +1,11 @@
 -- The order of placements (document 02, T-06): each number of a row has its position (`position-number`, `number-position`), a placement that precedes one that
 -- precedes a third precedes that too (`precedes-trans`), and of two placements inside a table one precedes the other or they are the same
 -- (`places-order`). Assumes nothing.
-use mathlib.Core.Path.{_≡_, refl, sym, ap, ap₂, _∙_, subst}
+use mathlib.Core.Path.{_≡_, sym, ap, ap₂, _∙_}
 use mathlib.Core.Logic.{_⊎_, inl, inr, ⊎-elim}
-use mathlib.Core.Bool.{Bool, true, false, not}
+use mathlib.Core.Bool.{Bool, false, not}
 use mathlib.Core.List.{List}
-use Prim.Native.Nat.{ℕ, zero, suc, _+_, _*_, _/_, _%_, _≤_, _<_}
+use Prim.Native.Nat.{ℕ, zero, suc, _+_, _*_, _/_, _%_, _<_}
 use native.Mathlib.Nat.{not-suc-le-zero, mod-lt, div-lt-iff-lt-mul, mul-add-div-right, mul-add-mod-self-right, div-eq-of-lt, mod-eq-of-lt}
 use native.Mathlib.Omega.{arith}
 use lib.Arith.{lt-of-le-ne}
@@ -13,14 +13,13 @@ use lib.ListN.{length}
 use lib.IntN.{ℤ}
 use lib.Signed.{_<ℤ_, ltZ}
 use Rattle.integers.specs.Integer.{eqZ}
-use Rattle.integers.specs.Below.{UpTo}
-use Rattle.integers.proofs.Booleans.{clash, decide, not-true, not-false, passes}
+use Rattle.integers.proofs.Booleans.{decide, not-true, not-false, passes}
 use Rattle.integers.proofs.Below.{least-view, below-or, same-or}
-use Rattle.integers.proofs.Ints.{ints, eqZ-eq, eq-eqZ, not-eq}
+use Rattle.integers.proofs.Ints.{ints, eqZ-eq}
 use Rattle.integers.proofs.Ranges.{record-ends}
 use Rattle.sheet.specs.Layout.{axes, rows}
 use Rattle.sheet.specs.Accepted.{Table}
-use Rattle.sheet.specs.Cuts.{HasNumber, isOpen, number}
+use Rattle.sheet.specs.Cuts.{HasNumber, number}
 use Rattle.sheet.specs.FirstLayout.{Places, perRow, numbers, numberAt, Precedes}
 use Rattle.sheet.proofs.Accepted.{rows-same}
 use Rattle.sheet.proofs.Inside.{inside-antisym}
@@ -125,7 +124,7 @@ module _ (block : List ℤ) where
         ⊎-elim
         (λ w.
         let before : (m : ℕ) → m < w .at → numberAt block p m ≡ numberAt block q m = λ m h.
-            ⊎-elim (λ e. eqZ-eq e) (λ e. let l = w .first m (ap not e) in absurd (omega arith)) (decide (same m)) in
+        ⊎-elim (λ e. eqZ-eq e) (λ e. let l = w .first m (ap not e) in absurd (omega arith)) (decide (same m)) in
         let n : eqZ (numberAt block p (w .at)) (numberAt block q (w .at)) ≡ false = not-true (w .passes) in
         inr (⊎-elim
         (λ l. inl record { at = w .at; below = long p (x .inside .as-long) (w .below); same = before; less = omega ints })

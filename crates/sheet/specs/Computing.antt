@@ -1,5 +1,5 @@
 -- One name that opens every definition, for a proof that computes a case: `unfolding computing`. Assumes nothing.
-use Rattle.integers.specs.Integer.{eqZ, within, larger, lesser, width}
+use Rattle.integers.specs.Integer.{eqZ, within, width}
 use Rattle.integers.specs.Below.{_⇒_, allBelow, anyBelow, sumBelow, productBelow, leastBelow, greatestBelow, foremost, firstSome, valueOr}
 use Rattle.integers.specs.Bits.{bitAt, bit, holds, holdsOnly, setOf}
 use Rattle.integers.specs.Words.{listBelow, pairsBelow, replaced, sameWords}
@@ -18,7 +18,7 @@ use Rattle.sheet.specs.Refusal.{refusing}
 use Rattle.sheet.specs.Text.{reading-and-printing}
 
 unfoldable pub computing : Unit {0}
-unfolding eqZ within larger lesser width _⇒_ allBelow anyBelow sumBelow productBelow leastBelow greatestBelow foremost firstSome valueOr
+unfolding eqZ within width _⇒_ allBelow anyBelow sumBelow productBelow leastBelow greatestBelow foremost firstSome valueOr
     bitAt bit holds holdsOnly setOf listBelow pairsBelow replaced sameWords bind pass rounds settleBy layout allowing placing bounding
     narrowing settling cutting laying relating filling refusing reading-and-printing
 computing = tt

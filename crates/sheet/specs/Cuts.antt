@@ -1,11 +1,12 @@
 -- Tables cut down at one place: a row's set or one range replaced, and a number of a row cut to the values from a to b. A row's numbers are
 -- its shape's and then a coordinate for each dimension; in a table that is not fixed several values may be open for one of them.
 -- Documents 02's T-06 splits tables so, and T-08 tightens one range. The laws are in proofs/Cuts.antt. Assumes nothing.
-use mathlib.Core.Bool.{Bool, _&&_}
+use mathlib.Core.Path.{_≡_}
+use mathlib.Core.Bool.{Bool, true, _&&_}
 use mathlib.Core.List.{List, [], _∷_}
 use Prim.Native.Nat.{ℕ, zero, suc, _+_, _*_, _≤_}
 use lib.IntN.{ℤ, pos}
-use Rattle.integers.specs.Integer.{nat, within, larger, lesser}
+use Rattle.integers.specs.Integer.{nat, within, maxZ, minZ}
 use Rattle.integers.specs.Below.{leastBelow, valueOr}
 use Rattle.integers.specs.Bits.{setOf}
 use Rattle.integers.specs.Words.{replaced}
@@ -35,10 +36,14 @@ module _ (block : List ℤ) (table : List ℤ) where
   number i zero = pos (valueOr 0 (leastBelow 33 (hasShape block table i)))
   number i (suc d) = low block table i d
 
+  -- no other is open
+  abbrev pub Single : ℕ → ℕ → Type 0
+  Single i c = (z : ℤ) → isOpen i c z ≡ true → z ≡ number i c
+
   -- the values from a to b alone stay open
   unfoldable pub cutTo : ℕ → ℕ → ℤ → ℤ → List ℤ
   cutTo i zero a b = withShapes i (pos (setOf 32 (λ s. hasShape block table i s && within a b (pos s))))
-  cutTo i (suc d) a b = withRange i d (larger (low block table i d) a) (lesser (high block table i d) b)
+  cutTo i (suc d) a b = withRange i d (maxZ (low block table i d) a) (minZ (high block table i d) b)
 
 -- one name that opens every definition above: `unfolding cutting`
 unfoldable pub cutting : Unit {0}

@@ -34,7 +34,7 @@ layoutPositions =
     ∷ case (room 7 6) (openTo (4 ∷ 4 ∷ 4 ∷ [])) (placesFirst (some (standAt (0 ∷ 2 ∷ 4 ∷ []))))
     -- the shape's number comes before the coordinate: shape 1 at 2 precedes shape 2 at 0
     ∷ case (line (3 ∷ 1 ∷ []) 2 3) (row 3 (pos 0) (pos 6) ++ row 2 (pos 1) (pos 1))
-        (placesFirst (some (row 1 (pos 2) (pos 2) ++ row 2 (pos 1) (pos 1))))
+    (placesFirst (some (row 1 (pos 2) (pos 2) ++ row 2 (pos 1) (pos 1))))
     -- row 1 comes before row 2
     ∷ case (line (2 ∷ []) 1 3) (row 1 (pos 1) (pos 9) ++ row 1 (pos 0) (pos 9)) (placesFirst (some (standAt (1 ∷ 3 ∷ []))))
     -- row 1's low end lies in no placement, though the table is settled as given
@@ -49,9 +49,9 @@ layouts-pass = tt
 
 -- ---- check 16: eight rows pass, nine do not; of nine rows, one of which is bad, it is 8
 pub limits-pass : T (
-  eqb (refusalLayout (line (2 ∷ []) 1 3) (openTo (9 ∷ 9 ∷ 9 ∷ 9 ∷ 9 ∷ 9 ∷ 9 ∷ 9 ∷ []))) 0
-  && eqb (refusalLayout (line (2 ∷ []) 1 3) (openTo (9 ∷ 9 ∷ 9 ∷ 9 ∷ 9 ∷ 9 ∷ 9 ∷ 9 ∷ 9 ∷ []))) 16
-  && eqb (refusalLayout (line (2 ∷ []) 1 3) (openTo (9 ∷ 9 ∷ 9 ∷ 9 ∷ 9 ∷ 9 ∷ 9 ∷ 9 ∷ []) ++ row 1 (pos 1) (pos 0))) 8
-)
+    eqb (refusalLayout (line (2 ∷ []) 1 3) (openTo (9 ∷ 9 ∷ 9 ∷ 9 ∷ 9 ∷ 9 ∷ 9 ∷ 9 ∷ []))) 0
+    && eqb (refusalLayout (line (2 ∷ []) 1 3) (openTo (9 ∷ 9 ∷ 9 ∷ 9 ∷ 9 ∷ 9 ∷ 9 ∷ 9 ∷ 9 ∷ []))) 16
+    && eqb (refusalLayout (line (2 ∷ []) 1 3) (openTo (9 ∷ 9 ∷ 9 ∷ 9 ∷ 9 ∷ 9 ∷ 9 ∷ 9 ∷ []) ++ row 1 (pos 1) (pos 0))) 8
+    )
 unfolding computing words row boxesFrom line openTo
 limits-pass = tt

@@ -1,3 +1,4 @@
 pub mod Reading
 pub mod Ends
 pub mod Shapes
+pub mod Copies

@@ -79,6 +79,18 @@ pub fn set_at(words: &[i64], at: usize) -> u32
     w as u32
 }
 
+// Writes one run over another of the same length.
+pub fn copy(to: &mut [i64], from: &[i64])
+    requires { ⌜ length (now to) ≡ length (now from) ⌝ }
+    ensures { λ _. ⌜ now (to .exit) ≡ now (from .entry) ⌝ }
+{
+    let mut at = 0;
+    while at < to.len() {
+        to[at] = from[at];
+        at += 1;
+    }
+}
+
 // ---- sets of numbers from 0 on
 
 // Whether the set holds q.

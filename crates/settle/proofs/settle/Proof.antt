@@ -15,7 +15,7 @@ use Rattle.words.proofs.Reading.{read-back}
 use Rattle.accept.proofs.Chain.{refused, accepted}
 use Rattle.settle.specs.Todo.{Answered}
 use Rattle.settle.specs.Demand.{Promise}
-use Rattle.settle.proofs.Copies.{answer-refused}
+use Rattle.settle.proofs.Answers.{answer-refused}
 use Rattle.settle.proofs.settle.Statement.{statement}
 use Rattle.settle.proofs.settle.Tie as tie
 

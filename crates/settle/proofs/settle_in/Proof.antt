@@ -12,7 +12,8 @@ use Rattle.sheet.specs.Accepted.{Table}
 use Rattle.sheet.specs.Layout.{tableMost}
 use Rattle.sheet.proofs.Accepted.{table-short}
 use Rattle.settle.specs.Todo.{FoundBy}
-use Rattle.settle.proofs.Copies.{front, whole, answer-none, answer-some}
+use Rattle.words.proofs.Copies.{front, whole}
+use Rattle.settle.proofs.Answers.{answer-none, answer-some}
 use Rattle.settle.proofs.settle_in.Statement.{statement}
 use Rattle.settle.proofs.settle_in.Tie as tie
 
@@ -50,7 +51,7 @@ module _ (f : tie.After-copy) where
   same = front (f .copy .last .0) (replicate tableMost (pos 0)) (length (t s)) long ∙ f .copy .ensures
 
   all : length work ≡ tableMost
-  all = whole (f .copy .last .0) (replicate tableMost (pos 0)) (length (t s)) long (short s) refl
+  all = whole (f .copy .last .0) (replicate tableMost (pos 0)) (length (t s)) long (short s)
 
 array-borrow-prefix-work-2 : tie.Need-array-borrow-prefix-work-2
 array-borrow-prefix-work-2 c = let f = c .before in omega (arith, all f, short (s f))
@@ -93,7 +94,7 @@ returns c = let g = c .before .before in answer-none (t (s (f g))) refl (found g
 array-share-prefix-work : tie.Need-array-share-prefix-work
 array-share-prefix-work c =
     let g = c .before .before .before in
-    omega (arith, short (s (f g)), whole (left g) (work (f g)) (length (t (s (f g)))) (left-long g) (short (s (f g))) (all (f g)))
+    omega (arith, short (s (f g)), whole (left g) (work (f g)) (length (t (s (f g)))) (left-long g) (omega (arith, short (s (f g)), all (f g))), all (f g))
 
 slice-aggregate-copy-2 : tie.Need-slice-aggregate-copy-2
 slice-aggregate-copy-2 c = let g = c .before .before .before .before in sym (ap length (front-left g) ∙ left-long g)

@@ -1,13 +1,13 @@
--- `settle::copy` meets its contract: the first words are those of the other run. Assumes nothing.
+-- `words::copy` meets its contract: the first words are those of the other run. Assumes nothing.
 use mathlib.Core.Path.{_≡_, refl, sym, _∙_}
 use Prim.Native.Nat.{_-_, _≤_}
 use native.Mathlib.Omega.{arith}
 use borrow.Author.Needs.{needs}
 use lib.ListN.{length, take, length-set}
 use lib.Seq.{take-all}
-use Rattle.settle.proofs.Turns.{take-set}
-use Rattle.settle.proofs.copy.Statement.{statement}
-use Rattle.settle.proofs.copy.Tie as tie
+use Rattle.words.proofs.Copies.{take-set}
+use Rattle.words.proofs.copy.Statement.{statement}
+use Rattle.words.proofs.copy.Tie as tie
 
 abbrev Inv-loop : tie.InvT-loop
 Inv-loop to₀ from at₀ to at = (at ≤ length from) × (length to ≡ length to₀) × (take at to ≡ take at from)

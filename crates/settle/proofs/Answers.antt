@@ -1,24 +1,13 @@
--- The local copy of a table, and the answers of settling as the code gives them. Assumes nothing.
-use mathlib.Core.Path.{_≡_, refl, sym, ap₂, _∙_}
-use mathlib.Core.List.{List, _++_}
+-- The answers of settling as the code gives them. Assumes nothing.
+use mathlib.Core.Path.{_≡_, refl, sym, ap₂}
+use mathlib.Core.List.{List}
 use mathlib.Core.Option.{Option, none, some}
-use Prim.Native.Nat.{ℕ, zero, suc, _≤_, _<_}
+use Prim.Native.Nat.{ℕ, zero, suc, _<_}
 use native.Mathlib.Omega.{arith}
 use lib.IntN.{ℤ, pos}
-use lib.ListN.{length, take, drop, length-append, length-drop}
-use lib.Seq.{take-at}
 use Rattle.integers.specs.Below.{valueOr}
-use Rattle.sheet.specs.Layout.{tableMost}
 use Rattle.sheet.specs.Answer.{settleAnswer, tableAfter}
 use Rattle.sheet.specs.declared.Settling.the-variants.{Settled, NoLayout, Refused}
-
--- ---- an array whose first n words u came back from a loan
-module _ (u z : List ℤ) (n : ℕ) (e : length u ≡ n) where
-  pub front : take n (u ++ drop n z) ≡ u
-  front = take-at u (drop n z) n e
-
-  pub whole : n ≤ tableMost → length z ≡ tableMost → length (u ++ drop n z) ≡ tableMost
-  whole h k = length-append u (drop n z) ∙ (let q = length-drop n z in omega arith)
 
 -- ---- the answers
 pub answer-refused : {g : ℕ} (t : List ℤ) (o : Option (List ℤ)) → 0 < g → (Refused (pos g) ≡ settleAnswer g o) × (t ≡ tableAfter g t o)

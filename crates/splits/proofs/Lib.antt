@@ -1,0 +1,4 @@
+pub mod Values
+pub mod Writes
+pub mod Picks
+pub mod Parts

@@ -1,9 +1,11 @@
 -- A table split at a value of one of its numbers: either part is accepted and lies inside the table (`upto-part`, `past-part`), has a smaller extent
 -- (`upto-falls`, `past-falls`) and has the placements whose number it has (`in-upto`, `in-past`, `upto-number`, `past-number`). Assumes nothing.
 use mathlib.Core.Path.{_≡_}
+use mathlib.Core.Logic.{⊎-elim}
 use mathlib.Core.Bool.{true, false}
 use mathlib.Core.List.{List}
-use Prim.Native.Nat.{ℕ, _<_}
+use Prim.Native.Nat.{ℕ, _≤_, _<_}
+use native.Mathlib.Omega.{arith}
 use lib.IntN.{ℤ, pos, _+ℤ_}
 use lib.Signed.{_≤ℤ_, _<ℤ_}
 use Rattle.integers.specs.Integer.{minus, within, Within}
@@ -16,6 +18,7 @@ use Rattle.sheet.specs.Accepted.{Table}
 use Rattle.sheet.specs.Cuts.{HasNumber, isOpen, number, cutTo}
 use Rattle.sheet.specs.FirstLayout.{Places}
 use Rattle.sheet.proofs.Accepted.{accepted-head, accepted-table, accepted-again}
+use Rattle.sheet.proofs.Inside.{inside-refl, inside-trans, inside-falls}
 use Rattle.sheet.proofs.Numbers.{number-open}
 use Rattle.sheet.proofs.Places.{places-open, places-cut, cut-inside, cut-table, cut-places, cut-falls}
 use Rattle.splits.specs.Splits.{far, uptoValue, pastValue, SplitAt}
@@ -26,6 +29,13 @@ pub record Part (block t v : List ℤ) : Type 0 where
   pub accepted : refusal block v ≡ 0
   pub inside : Inside block v t
   pub places : (p : List ℤ) → Places block v p → Places block t p
+
+pub part-refl : (block t : List ℤ) → refusal block t ≡ 0 → Part block t t
+part-refl block t accepted = record { accepted = accepted; inside = inside-refl block t; places = λ p x. x }
+
+pub part-trans : {block t u v : List ℤ} → Part block t u → Part block u v → Part block t v
+part-trans {block} x y =
+    record { accepted = y .accepted; inside = inside-trans block (y .inside) (x .inside); places = λ p z. x .places p (y .places p z) }
 
 module _ (block : List ℤ) (t : List ℤ) (accepted : refusal block t ≡ 0) where
   some-axes : 0 < axes block
@@ -116,3 +126,9 @@ module _ (block : List ℤ) (t : List ℤ) (accepted : refusal block t ≡ 0) wh
         cut-falls block some-axes t table i c (x .has) (z +ℤ pos 1) (pos far) (x .next) (x .opens) next-in
         (number block t i c) (least-open i c (x .has) z)
         (fails (λ e. let w = within-true e in let f = x .from in omega (ints, lin (v z ⊕ v (pos 1)))))
+
+-- a part has no greater extent
+pub part-extent : {block t v : List ℤ} → refusal block t ≡ 0 → Part block t v → extent block v ≤ extent block t
+part-extent {block} {t} {v} accepted x =
+    ⊎-elim (λ q. rw q (omega arith)) (λ l. omega arith)
+    (inside-falls block v t (accepted-table block v (x .accepted)) (accepted-table block t accepted) (x .inside))

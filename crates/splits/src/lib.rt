@@ -5,6 +5,7 @@ pub mod pick; // pick.rt: which number is split, and where
 ghost use mathlib.Core.Path.{_≡_};
 ghost use Prim.Native.Nat.{suc, _+_, _<_, _≤_};
 ghost use lib.IntN.{pos, _+ℤ_};
+ghost use lib.ListN.{length};
 ghost use lib.Signed.{_≤ℤ_, _<ℤ_};
 ghost use Rattle.integers.specs.Integer.{Within};
 ghost use Rattle.integers.specs.Bits.{setOf};
@@ -116,18 +117,27 @@ fn cut_to(block: &[i64], table: &mut [i64], row: usize, column: usize, from: i64
     }
 }
 
-// It keeps those up to z.
-pub fn keep_upto(block: &[i64], table: &mut [i64], row: usize, column: usize, z: i64)
-    requires { ⌜ OnNumber (now block) (now table) row column ⌝ }
-    ensures { λ _. ⌜ now (table .exit) ≡ uptoValue (now (block .entry)) (now (table .entry)) row column z ⌝ }
+// The number keeps the values up to the split.
+pub fn keep_upto(block: &[i64], table: &mut [i64], s: Split)
+    requires { ⌜ OnNumber (now block) (now table) (s .row) (s .column) ⌝ }
+    ensures { λ _. ⌜ now (table .exit) ≡ uptoValue (now (block .entry)) (now (table .entry)) (s .row) (s .column) (s .at) ⌝ }
 {
-    cut_to(block, table, row, column, -FAR, z);
+    cut_to(block, table, s.row, s.column, -FAR, s.at);
 }
 
-// It keeps those past z.
-pub fn keep_past(block: &[i64], table: &mut [i64], row: usize, column: usize, z: i64)
-    requires { ⌜ OnNumber (now block) (now table) row column × Within far z ⌝ }
-    ensures { λ _. ⌜ now (table .exit) ≡ pastValue (now (block .entry)) (now (table .entry)) row column z ⌝ }
+// Writes the table with the values up to the split over another run.
+pub fn copy_upto(block: &[i64], table: &[i64], part: &mut [i64], s: Split)
+    requires { ⌜ OnNumber (now block) (now table) (s .row) (s .column) × (length (now part) ≡ length (now table)) ⌝ }
+    ensures { λ _. ⌜ now (part .exit) ≡ uptoValue (now (block .entry)) (now (table .entry)) (s .row) (s .column) (s .at) ⌝ }
 {
-    cut_to(block, table, row, column, z + 1, FAR);
+    words::copy(part, table);
+    keep_upto(block, part, s);
+}
+
+// The number keeps the values past the split.
+pub fn keep_past(block: &[i64], table: &mut [i64], s: Split)
+    requires { ⌜ OnNumber (now block) (now table) (s .row) (s .column) × Within far (s .at) ⌝ }
+    ensures { λ _. ⌜ now (table .exit) ≡ pastValue (now (block .entry)) (now (table .entry)) (s .row) (s .column) (s .at) ⌝ }
+{
+    cut_to(block, table, s.row, s.column, s.at + 1, FAR);
 }

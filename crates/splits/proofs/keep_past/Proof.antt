@@ -10,7 +10,7 @@ use Rattle.splits.proofs.keep_past.Statement.{statement}
 use Rattle.splits.proofs.keep_past.Tie as tie
 
 add-cut-to : tie.Need-add-cut-to
-add-cut-to c = sum-fits (bnd (c .before .pre .1)) (num 1) tt
+add-cut-to c = sum-fits (bnd (c .before .before .before .pre .1)) (num 1) tt
 
 cut-to-requires : tie.Need-cut-to-requires
 cut-to-requires c κs = search needs
@@ -20,10 +20,10 @@ same-length c = search needs
 
 returns : tie.Need-returns
 returns c =
-    let s = c .before .before .before in
+    let s = c .before .before .before .before .before in
     let a = s .args in
     c .before .cut-to .ensures
-    ∙ ap (λ (z : ℤ). cutTo (now (a .block)) (now (a .table)) (a .row) (a .column) z (pos far)) (exact (bnd (s .pre .1) +ʷ num 1) tt)
+    ∙ ap (λ (z : ℤ). cutTo (now (a .block)) (now (a .table)) (a .s .row) (a .s .column) z (pos far)) (exact (bnd (s .pre .1) +ʷ num 1) tt)
 
 pub keep-past-spec : {M : Type 1} → statement M
 keep-past-spec = tie.close (tie.spec add-cut-to cut-to-requires same-length returns)

@@ -3,7 +3,7 @@ use mathlib.Core.Path.{ap, _∙_}
 use borrow.Author.Needs.{needs}
 use denote.Ref.{now}
 use lib.IntN.{ℤ}
-use mir.Facts.{toZ-ofZ}
+use Rattle.points.proofs.Sums.{bits-back}
 use Rattle.splits.specs.Splits.{uptoValue}
 use Rattle.splits.proofs.keep_upto.Statement.{statement}
 use Rattle.splits.proofs.keep_upto.Tie as tie
@@ -19,9 +19,10 @@ same-length c = search needs
 
 returns : tie.Need-returns
 returns c =
-    let s = c .before .before .before in
-    let a = s .args in
-    c .before .cut-to .ensures ∙ ap (λ (z : ℤ). uptoValue (now (a .block)) (now (a .table)) (a .row) (a .column) z) (toZ-ofZ (s .fits .z))
+    let x = c .before .before in
+    let a = x .before .before .args in
+    c .before .cut-to .ensures
+    ∙ ap (λ (z : ℤ). uptoValue (now (a .block)) (now (a .table)) (a .s .row) (a .s .column) z) (bits-back {z = a .s .at} (x .struct-told .given .1 .1 .0 .1))
 
 pub keep-upto-spec : {M : Type 1} → statement M
 keep-upto-spec = tie.close (tie.spec sub-cut-to cut-to-requires same-length returns)

@@ -13,7 +13,7 @@ use lib.IntN.{ℤ}
 use lib.Signed.{leZ}
 use Rattle.integers.proofs.Booleans.{decide}
 use Rattle.integers.proofs.Ints.{ints}
-use Rattle.sheet.specs.Layout.{layoutRowsMost, layoutTableMost, axes, rowLen, rows}
+use Rattle.sheet.specs.Layout.{layoutRowsMost, layoutTableMost, axes, rowLen}
 use Rattle.sheet.specs.Placement.{fixed}
 use Rattle.sheet.specs.Settle.{settleOf}
 use Rattle.sheet.specs.Refusal.{refusal}
@@ -21,8 +21,8 @@ use Rattle.sheet.specs.Cuts.{number}
 use Rattle.sheet.specs.FirstLayout.{Places}
 use Rattle.sheet.proofs.Accepted.{rows-same, accepted-head, accepted-rows}
 use Rattle.sheet.proofs.Places.{settle-keeps, settle-none, settle-places}
-use Rattle.splits.specs.Splits.{SplitAt, uptoValue, pastValue}
-use Rattle.splits.proofs.Parts.{Part, part-refl, part-trans, in-upto, in-past, past-part}
+use Rattle.splits.specs.Splits.{SplitAt, uptoValue, pastValue, Part}
+use Rattle.splits.proofs.Parts.{part-refl, part-trans, in-upto, in-past, past-part}
 use Rattle.layout.specs.Search.{Small, NoPlacement}
 use Rattle.layout.proofs.Settles.{settled-part}
 

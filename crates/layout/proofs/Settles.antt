@@ -14,7 +14,7 @@ use Rattle.sheet.specs.declared.Settling.the-variants.{Settled, NoLayout, Refus
 use Rattle.sheet.proofs.Inside.{inside-trans}
 use Rattle.sheet.proofs.Places.{settle-accepted, settle-inside}
 use Rattle.settle.specs.Demand.{Promise}
-use Rattle.splits.proofs.Parts.{Part}
+use Rattle.splits.specs.Splits.{Part}
 
 module _ (block t : List ℤ) (accepted : refusal block t ≡ 0) {finding : Settling} {v : List ℤ} (p : Promise block t finding v) where
   -- the promise, where nothing is found and where a table is

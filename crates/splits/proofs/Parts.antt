@@ -1,8 +1,8 @@
 -- A table split at a value of one of its numbers: either part is accepted and lies inside the table (`upto-part`, `past-part`), has a smaller extent
 -- (`upto-falls`, `past-falls`) and has the placements whose number it has (`in-upto`, `in-past`, `upto-number`, `past-number`). Assumes nothing.
-use mathlib.Core.Path.{_≡_}
+use mathlib.Core.Path.{_≡_, refl, sym}
 use mathlib.Core.Logic.{⊎-elim}
-use mathlib.Core.Bool.{true, false}
+use mathlib.Core.Bool.{true}
 use mathlib.Core.List.{List}
 use Prim.Native.Nat.{ℕ, _≤_, _<_}
 use native.Mathlib.Omega.{arith}
@@ -12,23 +12,18 @@ use Rattle.integers.specs.Integer.{minus, within, Within}
 use Rattle.integers.proofs.Booleans.{fails}
 use Rattle.integers.proofs.Ints.{ints, lin, v, _⊕_, within-true, true-within}
 use Rattle.sheet.specs.Layout.{axes}
-use Rattle.sheet.specs.Settle.{Inside, extent}
+use Rattle.sheet.specs.Settle.{extent}
 use Rattle.sheet.specs.Refusal.{refusal}
 use Rattle.sheet.specs.Accepted.{Table}
 use Rattle.sheet.specs.Cuts.{HasNumber, isOpen, number, cutTo}
 use Rattle.sheet.specs.FirstLayout.{Places}
 use Rattle.sheet.proofs.Accepted.{accepted-head, accepted-table, accepted-again}
 use Rattle.sheet.proofs.Inside.{inside-refl, inside-trans, inside-falls}
-use Rattle.sheet.proofs.Numbers.{number-open}
+use Rattle.sheet.proofs.Cuts.{cut-out}
+use Rattle.sheet.proofs.Numbers.{has-number, number-open}
 use Rattle.sheet.proofs.Places.{places-open, places-cut, cut-inside, cut-table, cut-places, cut-falls}
-use Rattle.splits.specs.Splits.{far, uptoValue, pastValue, SplitAt}
+use Rattle.splits.specs.Splits.{far, uptoValue, pastValue, SplitAt, Part}
 use Rattle.splits.proofs.Values.{open-near, number-near}
-
--- v is an accepted part of t: it lies inside, and t keeps the placements of v
-pub record Part (block t v : List ℤ) : Type 0 where
-  pub accepted : refusal block v ≡ 0
-  pub inside : Inside block v t
-  pub places : (p : List ℤ) → Places block v p → Places block t p
 
 pub part-refl : (block t : List ℤ) → refusal block t ≡ 0 → Part block t t
 part-refl block t accepted = record { accepted = accepted; inside = inside-refl block t; places = λ p x. x }
@@ -119,6 +114,15 @@ module _ (block : List ℤ) (t : List ℤ) (accepted : refusal block t ≡ 0) wh
     pub past-number : (p : List ℤ) → Places block (pastValue block t i c z) p → z <ℤ number block p i c
     past-number p y =
         let l = cut-number i c (x .has) (z +ℤ pos 1) (pos far) (x .next) (x .opens) next-in p y .0 in
+        omega (ints, lin (v z ⊕ v (pos 1)))
+
+    -- the least of them is past z too
+    pub past-least : z <ℤ number block (pastValue block t i c z) i c
+    past-least =
+        let u = past-part .accepted in
+        let w = pastValue block t i c z in
+        let o = number-open block w (accepted-table block w u) i c (has-number block (sym (past-part .inside .as-long)) (x .has)) in
+        let l = within-true (cut-out block t table i (z +ℤ pos 1) (pos far) c (x .has) i c (x .has) (number block w i c) o .1 refl refl) .0 in
         omega (ints, lin (v z ⊕ v (pos 1)))
 
     pub past-falls : extent block (pastValue block t i c z) < extent block t

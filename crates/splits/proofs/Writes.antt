@@ -1,18 +1,18 @@
 -- The words of a row as they are written: its set (`set-shapes`), and both ends of one of its ranges (`set-range`). Assumes nothing.
-use mathlib.Core.Path.{_≡_, refl, sym, ap, ap₂, _∙_}
-use mathlib.Core.Bool.{Bool, _&&_}
+use mathlib.Core.Path.{_≡_, ap, ap₂, _∙_}
+use mathlib.Core.Bool.{_&&_}
 use mathlib.Core.List.{List, [], _∷_}
 use Prim.Native.Nat.{ℕ, suc, _+_, _*_, _<_}
 use native.Mathlib.Omega.{arith}
 use lib.IntN.{ℤ, pos}
-use lib.ListN.{length, set}
+use lib.ListN.{set}
 use Rattle.integers.specs.Integer.{nat, within, maxZ, minZ}
 use Rattle.integers.specs.Bits.{holds, setOf}
 use Rattle.integers.specs.Words.{replaced}
 use Rattle.integers.proofs.Ints.{ints}
 use Rattle.integers.proofs.Lists.{replaced-one, replaced-two}
 use Rattle.integers.proofs.Ranges.{pos-nat}
-use Rattle.sheet.specs.Layout.{axes, rowAt, shapeSet, low, high, hasShape}
+use Rattle.sheet.specs.Layout.{axes, shapeSet, low, high, hasShape}
 use Rattle.sheet.specs.Accepted.{Table}
 use Rattle.sheet.specs.Cuts.{withShapes, withRange, cutTo}
 use Rattle.words.specs.declared.Place.{Place}

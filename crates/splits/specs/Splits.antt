@@ -8,8 +8,11 @@ use lib.Signed.{_≤ℤ_, _<ℤ_}
 use Rattle.integers.specs.Integer.{minus, within}
 use Rattle.integers.specs.Bits.{holds}
 use Rattle.sheet.specs.Placement.{fixed}
+use Rattle.sheet.specs.Settle.{Inside}
+use Rattle.sheet.specs.Refusal.{refusal}
 use Rattle.sheet.specs.Accepted.{Head, Table}
 use Rattle.sheet.specs.Cuts.{HasNumber, isOpen, number, cutTo}
+use Rattle.sheet.specs.FirstLayout.{Places}
 use Rattle.splits.specs.declared.Split.{Split}
 
 -- no value that is open for a number is farther from 0
@@ -52,3 +55,9 @@ module _ (block : List ℤ) (t : List ℤ) where
   pub record Picked (r : Split) : Type 0 where
     pub none : r .row ≡ 0 → fixed block t ≡ true
     pub some : 0 < r .row → SplitAt (r .row) (r .column) (r .at)
+
+-- v is an accepted part of t: it lies inside, and t keeps the placements of v
+pub record Part (block t v : List ℤ) : Type 0 where
+  pub accepted : refusal block v ≡ 0
+  pub inside : Inside block v t
+  pub places : (p : List ℤ) → Places block v p → Places block t p

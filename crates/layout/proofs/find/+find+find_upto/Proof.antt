@@ -19,8 +19,8 @@ use Rattle.sheet.specs.FirstLayout.{Places}
 use Rattle.sheet.proofs.Accepted.{accepted-head, accepted-table}
 use Rattle.sheet.proofs.Places.{settle-falls}
 use Rattle.splits.specs.declared.Split.{Split}
-use Rattle.splits.specs.Splits.{OnNumber, SplitAt, uptoValue, pastValue}
-use Rattle.splits.proofs.Parts.{Part, part-extent, upto-part, upto-falls, past-falls, split-near}
+use Rattle.splits.specs.Splits.{OnNumber, SplitAt, uptoValue, pastValue, Part}
+use Rattle.splits.proofs.Parts.{part-extent, upto-part, upto-falls, past-falls, split-near}
 use Rattle.words.proofs.Copies.{front, whole}
 use Rattle.layout.specs.Search.{Small, NoPlacement, Found}
 use Rattle.layout.proofs.Searches.{Keeps, keeps-start, keeps-settled, none-settled, fixed-settled, keeps-past, small-part}

@@ -10,8 +10,8 @@ use Rattle.integers.proofs.Booleans.{clash, not-false}
 use Rattle.sheet.specs.Settle.{extent, settleOf}
 use Rattle.sheet.proofs.Accepted.{accepted-head, accepted-table}
 use Rattle.sheet.proofs.Places.{settle-places, settle-falls}
-use Rattle.splits.specs.Splits.{SplitAt}
-use Rattle.splits.proofs.Parts.{Part, part-refl, part-trans, upto-part, upto-falls}
+use Rattle.splits.specs.Splits.{SplitAt, Part}
+use Rattle.splits.proofs.Parts.{part-refl, part-trans, upto-part, upto-falls}
 use Rattle.layout.proofs.Settles.{settled-part}
 use Rattle.layout.proofs.find.first_fit.Statement.{statement}
 use Rattle.layout.proofs.find.first_fit.Tie as tie

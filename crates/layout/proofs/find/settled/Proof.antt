@@ -1,5 +1,4 @@
 -- `layout::find::settled` meets its contract: what the answer of `settle::settle` says. Assumes nothing.
-use native.Mathlib.Omega.{arith}
 use borrow.Author.Needs.{needs}
 use denote.Ref.{now}
 use Rattle.integers.proofs.Booleans.{clash}
@@ -8,49 +7,39 @@ use Rattle.layout.proofs.Settles.{found-settled, found-no-layout, never
 use Rattle.layout.proofs.find.settled.Statement.{statement}
 use Rattle.layout.proofs.find.settled.Tie as tie
 
--- src/find.rt:23:11
 settle-requires : tie.Need-settle-requires
 settle-requires c κs = search needs
 
--- src/find.rt:24:30
 enum-told : tie.Need-enum-told
 enum-told c = search needs
 
--- src/find.rt:25:31
 enum-told-2 : tie.Need-enum-told-2
 enum-told-2 c = search needs
 
--- src/find.rt:26:33
 enum-told-3 : tie.Need-enum-told-3
 enum-told-3 c = search needs
 
--- src/find.rt:19:1
 same-length : tie.Need-same-length
 same-length c = search needs
 
--- src/find.rt:19:1
 returns : tie.Need-returns
 returns c =
     let a = c .before .before .before in
     let s = a .before .before in
     record { yes = λ _. found-settled (now (s .args .block)) (now (s .args .table)) (s .pre) (a .settle .ensures) (c .enum-told .given .1); no = λ e. clash refl e }
 
--- src/find.rt:19:1
 same-length-2 : tie.Need-same-length-2
 same-length-2 c = search needs
 
--- src/find.rt:19:1
 returns-2 : tie.Need-returns-2
 returns-2 c =
     let a = c .before .before .before in
     let s = a .before .before in
     record { yes = λ e. clash e refl; no = λ _. found-no-layout (now (s .args .block)) (now (s .args .table)) (s .pre) (a .settle .ensures) (c .enum-told2 .given .1) }
 
--- src/find.rt:19:1
 same-length-3 : tie.Need-same-length-3
 same-length-3 c = search needs
 
--- src/find.rt:19:1
 returns-3 : tie.Need-returns-3
 returns-3 c =
     let a = c .before .before .before in

@@ -214,11 +214,22 @@ impl<'a> Brute<'a> {
         unreachable!()
     }
 
-    /// A fixed placement is good.
+    /// A fixed placement is good, by the catalogue's rule: each row lies in its rooms, and each two boxes of rows to be
+    /// kept apart have a named dimension in which one starts at or past the other's end, with the clearance between.
     pub fn good(&self, table: &[i64]) -> bool {
-        (1..=self.rows(table)).all(|i| {
-            let p = self.points(table, i)[0];
-            self.allowed(table, i, 1 + self.set(table, i).trailing_zeros() as usize, &p)
+        let has = |i: usize, b: usize| self.set(table, i) >> (self.shape(b) - 1) & 1 == 1;
+        let start = |(i, b): (usize, usize), d| self.low(table, i, d) + self.offset(b, d);
+        let boxes_of = |i: usize| (0..self.boxes).filter(move |&b| has(i, b)).map(move |b| (i, b));
+        (0..self.rules).map(|r| self.rule(r)).all(|rule| {
+            let past = |x, y, d| start(x, d) >= start(y, d) + self.size(y.1, d) + rule[3 + 2 * d];
+            let apart = |x, y| (0..self.k).any(|d| rule[1] >> d & 1 == 1 && (past(x, y, d) || past(y, x, d)));
+            let named = |i: &usize| rule[2] >> (i - 1) & 1 == 1;
+            (1..=self.rows(table)).filter(named).all(|i| match rule[0] {
+                INSIDE => {
+                    self.room_holds(rule, 1 + self.set(table, i).trailing_zeros() as usize, &self.points(table, i)[0])
+                }
+                _ => (1..i).filter(named).all(|j| boxes_of(i).all(|x| boxes_of(j).all(|y| apart(x, y)))),
+            })
         })
     }
 
@@ -244,19 +255,19 @@ impl<'a> Brute<'a> {
         for (open, row) in rows.rev() {
             for d in (0..self.k).rev() {
                 let (low, high) = (1 + 2 * d, 2 + 2 * d);
-                let next = if row[low] < open[high] { row[low] + 1 } else { open[low] };
-                let moved = next > row[low];
-                (row[low], row[high]) = (next, next);
-                if moved {
+                if row[low] < open[high] {
+                    row[low] += 1;
+                    row[high] += 1;
                     return true;
                 }
+                (row[low], row[high]) = (open[low], open[low]);
             }
             let higher = open[0] & !(2 * row[0] - 1);
-            let left = if higher != 0 { higher } else { open[0] };
-            row[0] = left & -left;
             if higher != 0 {
+                row[0] = higher & -higher;
                 return true;
             }
+            row[0] = open[0] & -open[0];
         }
         false
     }

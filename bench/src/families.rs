@@ -29,8 +29,8 @@ fn ordinary() -> Vec<Family> {
         ordinary("k 2, half filled, clearances", |random| filling(random, 2, 50, 100)),
         ordinary("k 2, half filled, two shapes", |random| turned(random, 50)),
         ordinary("k 2, three fixed pillars", pillars),
-        ordinary("k 3, filled to 0.4", |random| filling(random, 3, 40, 0)),
-        ordinary("k 4, filled to 0.3", |random| filling(random, 4, 30, 0)),
+        ordinary("k 3, filled to 0.3", |random| filling(random, 3, 30, 0)),
+        ordinary("k 4, filled to 0.2", |random| filling(random, 4, 20, 0)),
     ]
 }
 
@@ -69,7 +69,7 @@ fn open(set: i64) -> Row {
     (set, [-FAR; 4], [FAR; 4])
 }
 
-/// Shapes of one box each, a rule that keeps all rows apart, and one that keeps them in a room from 0 on, if there is one.
+/// Shapes of one box each, a rule that keeps all rows apart, and where there is a room, from 0 on, one for it.
 fn sheet(k: usize, sizes: &[P], clearance: i64, room: &[i64], rows: &[Row]) -> Sheet {
     let (every_dim, every_row) = ((1 << k) - 1, (1 << rows.len()) - 1);
     let mut builder = Builder::new(k);
@@ -99,8 +99,8 @@ fn eight_sizes(random: &mut Random) -> Vec<P> {
     (0..8).map(|_| [0; 4].map(|_: i64| random.range(300, 1200))).collect()
 }
 
-/// The side of the smallest room in all directions of which the rows, each lengthened by the clearance, fill no more
-/// than so many hundredths, and which holds the longest.
+/// The side of the smallest room, as long in every dimension, which holds the longest row and of which all rows, each
+/// lengthened by the clearance, fill no more than so many hundredths.
 fn side(k: usize, sizes: &[P], clearance: i64, percent: i64) -> i64 {
     let volume = |size: &P| size[..k].iter().map(|x| x + clearance).product::<i64>();
     let filled: i64 = sizes.iter().map(volume).sum();

@@ -104,11 +104,12 @@ pub fn small_sheet(seed: u64) -> Sheet {
     sheet.build()
 }
 
-/// A small sheet of pieces of a room, which fill it, or almost, or lack a little; in some sheets they may be turned.
+/// A small sheet whose rows are the pieces of a room, in a room that is as large, or a little larger or smaller; in
+/// some sheets they may be turned.
 pub fn tight_sheet(seed: u64) -> Sheet {
     let random = &mut Random::new(seed);
     let k = random.range(1, 3) as usize;
-    let room = point(|_| random.range(5 - k as i64, [8, 4, 3][k - 1]));
+    let room = point(|_| random.range([5, 3, 2][k - 1], [8, 4, 3][k - 1]));
     let n = random.range(3, 5) as usize;
     let mut pieces = vec![room];
     while pieces.len() < n {
@@ -124,7 +125,7 @@ pub fn tight_sheet(seed: u64) -> Sheet {
     random.shuffle(&mut pieces);
     let turned = k > 1 && random.chance(30);
     let low = point(|_| random.range(-3, 3));
-    let high = point(|d| low[d] + room[d] + [-1, 0, 0, 0, 1][random.range(0, 4) as usize]);
+    let high = point(|d| low[d] + room[d] + [-1, 0, 0, 1, 1, 2][random.range(0, 5) as usize]);
     let mut sheet = Builder::new(k);
     sheet.add_apart((1 << k) - 1, (1 << n) - 1, &[0; 4]);
     sheet.add_inside((1 << k) - 1, (1 << n) - 1, &low, &high);
@@ -147,10 +148,14 @@ pub fn cut_down(mut sheet: Sheet, most: i64, random: &mut Random) -> Sheet {
         let place = random.range(0, (sheet.table.len() / words) as i64 - 1) as usize;
         let row = &mut sheet.table[place * words..][..words];
         let (column, from_below) = (random.range(0, k) as usize, random.chance(50));
-        match &mut row[(2 * column).saturating_sub(1)..] {
-            [set, ..] if column == 0 && set.count_ones() > 1 => *set -= if from_below { *set & -*set } else { 1 << set.ilog2() },
-            [low, high, ..] if column > 0 && low < high => *if from_below { low } else { high } += if from_below { 1 } else { -1 },
-            _ => {}
+        if column == 0 && row[0].count_ones() > 1 {
+            row[0] &= if from_below { row[0] - 1 } else { !(1 << row[0].ilog2()) };
+        } else if column > 0 && row[2 * column - 1] < row[2 * column] {
+            if from_below {
+                row[2 * column - 1] += 1;
+            } else {
+                row[2 * column] -= 1;
+            }
         }
     }
     sheet

@@ -30,7 +30,7 @@ fn tuned(block: &[i64], table: &mut [i64]) -> i64 {
 }
 
 /// How many times the search settles a table.
-fn settles(sheet: &Sheet) -> usize {
+fn count_settles(sheet: &Sheet) -> usize {
     let mut count = 0;
     first_layout(&sheet.block, &mut sheet.table.clone(), |block, table| {
         count += 1;
@@ -136,8 +136,8 @@ fn halfway(low: i64, high: i64) -> i64 {
     low + (high - low - 1) / 2
 }
 
-/// What a search goes by. `failures` counts for each row how often a part had no placement in which a number of the row
-/// was cut.
+/// A search over tables of so many words. `failures` counts for each row how often one of its numbers was parted and
+/// the lower part had no placement.
 struct Search<'a, S> {
     block: &'a [i64],
     words: usize,
@@ -147,7 +147,7 @@ struct Search<'a, S> {
 }
 
 impl<S: FnMut(&[i64], &mut [i64]) -> i64> Search<'_, S> {
-    /// The first placement: every one before the best so far lies inside `rest`.
+    /// The first placement inside `rest`, from which none that precedes the best one met is ever cut.
     fn first(&mut self, rest: &mut Table) -> Option<Table> {
         let mut best = *rest;
         if !self.place(&mut best) {
@@ -162,6 +162,7 @@ impl<S: FnMut(&[i64], &mut [i64]) -> i64> Search<'_, S> {
     /// Takes the number as low as a placement inside `rest` has it.
     fn lower(&mut self, rest: &mut Table, best: &mut Table, number: Number) {
         while number.least(rest) < number.least(best) {
+            // The best lies inside, so that a layout is left.
             self.settles(rest);
             let (low, high) = (number.least(rest), number.least(best));
             if low < high {
@@ -197,7 +198,7 @@ impl<S: FnMut(&[i64], &mut [i64]) -> i64> Search<'_, S> {
         false
     }
 
-    /// As `place`, with every way tried.
+    /// As `place`: the widest number is parted, and the upper part is looked at where the lower has no placement.
     fn find(&mut self, table: &mut Table) -> bool {
         while self.settles(table) {
             let Some(number) = self.widest(table) else { return true };
@@ -214,7 +215,7 @@ impl<S: FnMut(&[i64], &mut [i64]) -> i64> Search<'_, S> {
         false
     }
 
-    /// The open number that is widest, where one of a row that has failed often counts as wider; the first among equals.
+    /// The widest open number, each counted once more for every failure of its row; the first among equals.
     fn widest(&self, table: &Table) -> Option<Number> {
         let (mut found, mut most) = (None, 0);
         for number in self.numbers {
@@ -226,7 +227,7 @@ impl<S: FnMut(&[i64], &mut [i64]) -> i64> Search<'_, S> {
         found
     }
 
-    /// Settles the table; false where it has no layout. Not part of `find`, whose frames stay small so.
+    /// Settles the table; false where it has no layout. Kept out of `find`, so that its frames stay small.
     #[inline(never)]
     fn settles(&mut self, table: &mut Table) -> bool {
         (self.settle)(self.block, &mut table[..self.words]) == 0
@@ -239,33 +240,33 @@ const RATIOS: &[Ratio] =
 #[cfg(not(kernel))]
 const RATIOS: &[Ratio] = &[Ratio { name: "list/tuned", over: 0, under: 1 }];
 
-/// The bars: microseconds a call, the median of the ordinary sheets; and a ratio over the hard families.
+/// The kernel's bars: microseconds a call, the median of the ordinary sheets; and a ratio over the hard families.
 const MOST_MICROSECONDS: f64 = 500.0;
 const MOST_RATIO: f64 = 1.5;
 
-const EFFORT: Effort = Effort { batches: 20, batch: Duration::from_micros(200), most: Duration::from_millis(20) };
+const EFFORT: Effort = Effort { batches: 30, batch: Duration::from_micros(200), most: Duration::from_millis(200) };
 
-/// A measured family: how many of its sheets are placed, the settles of each sheet, and of each form the microseconds of
-/// a call on each sheet.
+/// A measured family: how many of its sheets are placed, the settles on each sheet, and for each form the microseconds
+/// of a call on each sheet.
 struct Measured {
-    is_hard: bool,
+    family: Family,
     placed: usize,
     settles: Vec<f64>,
     times: Vec<Vec<f64>>,
 }
 
 impl Measured {
-    /// Or who differs.
-    fn of(family: &Family) -> Result<Self, String> {
-        let (mut placed, mut settled, mut times) = (0, Vec::new(), vec![Vec::new(); FORMS.len()]);
+    /// Or on what sheet who differs.
+    fn of(family: Family) -> Result<Self, String> {
+        let (mut placed, mut settles, mut times) = (0, Vec::new(), vec![Vec::new(); FORMS.len()]);
         for sheet in &family.sheets {
             placed += (agreed(sheet)? == 0) as usize;
-            settled.push(settles(sheet) as f64);
+            settles.push(count_settles(sheet) as f64);
             for (form, time) in measure(FORMS, sheet, &EFFORT).into_iter().enumerate() {
                 times[form].push(time);
             }
         }
-        Ok(Measured { is_hard: family.is_hard, placed, settles: settled, times })
+        Ok(Measured { family, placed, settles, times })
     }
 
     /// Of all calls on the family's sheets.
@@ -280,7 +281,7 @@ impl Measured {
     }
 }
 
-/// What every form finds for the sheet, or who differs from the last, or that the placement is not good.
+/// What every form finds for the sheet, or who differs from the tuned one, or that the placement is not good.
 fn agreed(sheet: &Sheet) -> Result<i64, String> {
     let mut expected = sheet.table.clone();
     let finding = tuned(&sheet.block, &mut expected);
@@ -318,25 +319,26 @@ pub fn table() -> ExitCode {
         print!("  {:>12}  worst", ratio.name);
     }
     println!();
-    let mut measured: Vec<Measured> = Vec::new();
+    let mut measured = Vec::new();
     for family in families() {
-        let m = match Measured::of(&family) {
-            Ok(m) => m,
+        match Measured::of(family) {
+            Ok(m) => {
+                print_line(&m);
+                measured.push(m);
+            }
             Err(message) => {
-                eprintln!("{}: {message}", family.name);
+                eprintln!("{message}");
                 return ExitCode::FAILURE;
             }
-        };
-        print_line(family.name, &m);
-        measured.push(m);
+        }
     }
     summary(&measured);
     ExitCode::SUCCESS
 }
 
-fn print_line(name: &str, m: &Measured) {
-    let kind = if m.is_hard { '*' } else { ' ' };
-    print!("{kind} {name:29} {:>6} {:>6}", m.settles.len(), m.placed);
+fn print_line(m: &Measured) {
+    let mark = if m.family.is_hard { '*' } else { ' ' };
+    print!("{mark} {:29} {:>6} {:>6}", m.family.name, m.family.sheets.len(), m.placed);
     print!(" {:8.0} {:7.0}", median(&m.settles), greatest(m.settles.iter().copied()));
     for times in &m.times {
         print!(" {:9.1} {:9.1}", median(times), greatest(times.iter().copied()));
@@ -348,14 +350,15 @@ fn print_line(name: &str, m: &Measured) {
 }
 
 fn summary(measured: &[Measured]) {
-    println!("\nThe hard families are marked *. Settles, and microseconds a call of each form: the median of a family's sheets and");
-    println!("the worst; ratios: of all calls, and of the worst sheet. All agreed word for word on every sheet.\n");
-    let ordinary = measured.iter().filter(|m| !m.is_hard).flat_map(|m| &m.times[0]);
-    print!("{}: ordinary sheets {:.1} microseconds (median; bar {MOST_MICROSECONDS})", FORMS[0].0, median(ordinary));
+    println!("\nHard families are marked *. Settles, and microseconds a call of each form: the median of the family's");
+    println!("sheets, and the worst. Ratios: of all its calls, and of the worst sheet. All agreed word for word.\n");
+    let ordinary = measured.iter().filter(|m| !m.family.is_hard).flat_map(|m| &m.times[0]);
+    let (name, time) = (FORMS[0].0, median(ordinary));
+    println!("{name}, ordinary sheets: median {time:.0} microseconds (the kernel's bar: {MOST_MICROSECONDS})");
     for ratio in RATIOS {
-        let ratios = || measured.iter().filter(|m| m.is_hard).map(|m| m.ratio(ratio));
+        let ratios = || measured.iter().filter(|m| m.family.is_hard).map(|m| m.ratio(ratio));
         let (mean, worst) = (geometric_mean(ratios()), greatest(ratios()));
-        print!("; {} on hard families {mean:.2}, worst {worst:.2} (bar {MOST_RATIO})", ratio.name);
+        print!("{}, hard families: geometric mean {mean:.2}, worst {worst:.2}", ratio.name);
+        println!(" (the kernel's bar: {MOST_RATIO})");
     }
-    println!();
 }

@@ -4,10 +4,11 @@
 use crate::brute::{self, Brute};
 #[cfg(kernel)]
 use crate::fill::{kernel_fill, placement, plain, tuned};
-use crate::generate::{line_sheet, small_sheet, Line, Random, STYLES};
+use crate::generate::{cut_down, line_sheet, small_sheet, tight_sheet, Line, Random, STYLES};
+use crate::layout::{self, FORMS, MOST_ROWS};
 #[cfg(kernel)]
 use crate::relation::relation;
-use crate::sheet::{refusal, Sheet, MAX_CLEARANCE};
+use crate::sheet::{refusal, row_len, Sheet, MAX_CLEARANCE, MAX_ROWS};
 use crate::SUBJECTS;
 use std::process::ExitCode;
 
@@ -18,6 +19,8 @@ struct Counts {
     no_layout: usize,
     damaged: usize,
     refused: [usize; 9],
+    placed: usize,
+    unplaced: usize,
     kind: usize,
     #[cfg(kernel)]
     calls: usize,
@@ -37,6 +40,9 @@ impl Counts {
     }
 }
 
+/// Of a sheet whose first layout is looked for by brute force.
+const MOST_PLACEMENTS: i64 = 3000;
+
 pub fn run(count: u64) -> ExitCode {
     let counts = &mut Counts::default();
     for seed in 0..count {
@@ -52,6 +58,10 @@ pub fn run(count: u64) -> ExitCode {
             fills(&sheet, random, counts);
         }
         damaged(&sheet, random, counts);
+        too_many_rows(&sheet, random, counts);
+        for sheet in [sheet, tight_sheet(seed)] {
+            first_layout(&cut_down(sheet, MOST_PLACEMENTS, random), counts);
+        }
     }
     eprintln!("\rsheets of the benchmark's kind ");
     for seed in 0..count / 20 {
@@ -74,6 +84,12 @@ pub fn run(count: u64) -> ExitCode {
         counts.sheets, counts.settled[0], counts.settled[1], counts.settled[2], counts.no_layout
     );
     println!("damaged sheets: {}, by the refusal found (0 to 8): {:?}", counts.damaged, counts.refused);
+    println!(
+        "first layouts against brute force: {} ({} placed, {} none)",
+        counts.placed + counts.unplaced,
+        counts.placed,
+        counts.unplaced
+    );
     println!("sheets of the benchmark's kind, against each other: {}", counts.kind);
     #[cfg(kernel)]
     println!("other calls of the kernel: {}, fills found among them: {}", counts.calls, counts.fills);
@@ -113,6 +129,34 @@ fn against_each_other(sheet: &Sheet, counts: &mut Counts) {
     }
 }
 
+/// The first layout by every form and by brute force.
+fn first_layout(sheet: &Sheet, counts: &mut Counts) {
+    let placed = Brute::new(&sheet.block).first_layout(&sheet.table);
+    let finding = if placed.is_some() { 0 } else { layout::NONE };
+    counts.placed += placed.is_some() as usize;
+    counts.unplaced += placed.is_none() as usize;
+    find_layouts(sheet, finding, &placed.unwrap_or_else(|| sheet.table.clone()), counts);
+}
+
+fn find_layouts(sheet: &Sheet, finding: i64, expected: &[i64], counts: &mut Counts) {
+    for (name, form) in FORMS {
+        let mut table = sheet.table.clone();
+        let found = form(&sheet.block, &mut table);
+        counts.compare(&format!("first layout, {name}"), sheet, (found, &table[..]), (finding, expected));
+    }
+}
+
+/// A first layout is refused where the sheet's rows come again and again, and for the row alone where one has no shape.
+fn too_many_rows(sheet: &Sheet, random: &mut Random, counts: &mut Counts) {
+    let words = row_len(sheet.block[0] as usize);
+    let rows = random.range(MOST_ROWS as i64 + 1, MAX_ROWS as i64) as usize;
+    let table = sheet.table.iter().copied().cycle().take(rows * words).collect();
+    let mut many = Sheet { block: sheet.block.clone(), table };
+    find_layouts(&many, layout::TOO_MANY_ROWS, &many.table, counts);
+    many.table[words * random.range(0, rows as i64 - 1) as usize] = 0;
+    find_layouts(&many, 8, &many.table, counts);
+}
+
 /// The refusals on a sheet in which something was changed, which may leave it accepted.
 fn damaged(sheet: &Sheet, random: &mut Random, counts: &mut Counts) {
     #[rustfmt::skip]
@@ -149,6 +193,7 @@ fn damaged(sheet: &Sheet, random: &mut Random, counts: &mut Counts) {
             let found = settle(&bad.block, &mut table);
             counts.compare(name, &bad, (found, &table), (expected, &bad.table));
         }
+        find_layouts(&bad, expected, &bad.table, counts);
     }
 }
 

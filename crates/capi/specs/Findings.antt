@@ -16,6 +16,8 @@ use Rattle.sheet.specs.declared.Standing.{Standing}
 use Rattle.sheet.specs.declared.Standing.the-variants as R
 use Rattle.sheet.specs.declared.Share.{Share}
 use Rattle.sheet.specs.declared.Share.the-variants as F
+use Rattle.sheet.specs.declared.Layout.{Layout}
+use Rattle.sheet.specs.declared.Layout.the-variants as L
 use Rattle.sheet.specs.Relation.{relationNumber}
 use Rattle.capi.specs.declared.BoundFinding.{BoundFinding}
 use Rattle.capi.specs.declared.StandingFinding.{StandingFinding}
@@ -49,6 +51,11 @@ unfoldable pub settleFinding : Settling → ℤ
 settleFinding S.Settled = pos 0
 settleFinding S.NoLayout = minus 1
 settleFinding (S.Refused g) = g
+
+unfoldable pub layoutFinding : Layout → ℤ
+layoutFinding L.Placed = pos 0
+layoutFinding L.Nothing = minus 1
+layoutFinding (L.Refused g) = g
 
 -- the relation's number is 0 when refused
 unfoldable pub standingFinding : Standing → StandingFinding

@@ -10,16 +10,18 @@ ghost use Rattle.sheet.specs.Placement.{good};
 ghost use Rattle.sheet.specs.Bounds.{leastOf, greatestOf};
 ghost use Rattle.sheet.specs.Narrow.{narrowOf};
 ghost use Rattle.sheet.specs.Settle.{settleOf};
+ghost use Rattle.sheet.specs.FirstLayout.{firstOf};
 ghost use Rattle.sheet.specs.Relation.{relationNumber, relationOf};
 ghost use Rattle.sheet.specs.Fill.{ruleAsked, roomCells, coveredCells, permille};
 ghost use Rattle.sheet.specs.Refusal.{refusal, refusalRow, refusalShape, refusalDim, refusalPlacement, refusalRelation, refusalFill};
-ghost use Rattle.sheet.specs.Refusal.{rowSlice, rowStart};
+ghost use Rattle.sheet.specs.Refusal.{refusalLayout, rowSlice, rowStart};
 ghost use Rattle.sheet.specs.Answer.{pointAnswer, verdictAnswer, boundAnswer, narrowAnswer, settleAnswer, standingAnswer, fillAnswer};
-ghost use Rattle.sheet.specs.Answer.{tableAfter};
+ghost use Rattle.sheet.specs.Answer.{layoutAnswer, tableAfter};
 ghost use Rattle.capi.specs.Findings.{pointFinding, verdictFinding, noBound, boundFinding, narrowFinding, settleFinding};
-ghost use Rattle.capi.specs.Findings.{standingFinding, shareFinding};
+ghost use Rattle.capi.specs.Findings.{standingFinding, shareFinding, layoutFinding};
 use sheet::Allen;
 use sheet::Bound;
+use sheet::Layout;
 use sheet::Narrowing;
 use sheet::PointTest;
 use sheet::Settling;
@@ -119,6 +121,16 @@ fn settle_finding(x: Settling) -> i64
         Settling::Settled => 0,
         Settling::NoLayout => -1,
         Settling::Refused(g) => g,
+    }
+}
+
+fn layout_finding(x: Layout) -> i64
+    ensures { λ r. ⌜ r ≡ layoutFinding x ⌝ }
+{
+    match x {
+        Layout::Placed => 0,
+        Layout::Nothing => -1,
+        Layout::Refused(g) => g,
     }
 }
 
@@ -247,6 +259,16 @@ pub extern "C" fn zk_settle(block: &[i64], table: &mut [i64]) -> i64
         (settleOf (now (block .entry)) (now (table .entry)))) ⌝ }
 {
     settle_finding(settle::settle(block, table))
+}
+
+#[no_mangle]
+pub extern "C" fn zk_first_layout(block: &[i64], table: &mut [i64]) -> i64
+    ensures { λ r. ⌜ (r ≡ layoutFinding (layoutAnswer (refusalLayout (now (block .entry)) (now (table .entry)))
+        (firstOf (now (block .entry)) (now (table .entry)))))
+        × (now (table .exit) ≡ tableAfter (refusalLayout (now (block .entry)) (now (table .entry))) (now (table .entry))
+        (firstOf (now (block .entry)) (now (table .entry)))) ⌝ }
+{
+    layout_finding(layout::first_layout(block, table))
 }
 
 #[no_mangle]

@@ -6,10 +6,10 @@ use mathlib.Core.Bool.{Bool, true, false}
 use mathlib.Core.List.{List}
 use mathlib.Core.Option.{some}
 use Prim.Native.Nat.{ℕ, suc, _+_, _-_, _/_, _%_, _≤_, _<_}
-use lib.IntN.{ℤ}
-use lib.Signed.{_≤ℤ_, _<ℤ_, leZ}
+use lib.IntN.{ℤ, pos, _+ℤ_}
+use lib.Signed.{_≤ℤ_, _<ℤ_}
 use Rattle.integers.specs.Integer.{up, dn}
-use Rattle.integers.proofs.Ints.{ints}
+use Rattle.integers.proofs.Ints.{ints, sum}
 use Rattle.integers.proofs.Ranges.{nat-diff}
 use Rattle.sheet.specs.Settle.{settleOf}
 use Rattle.sheet.specs.Cuts.{number}
@@ -76,6 +76,18 @@ module _ (block : List ℤ) where
     unfolding excess
     excess-is r b = nat-diff (numberAt block b m) (numberAt block r m)
 
+    pub least-below : numberAt block rest m ≤ℤ numberAt block best m
+    unfolding numberAt
+    least-below =
+        let o = on-rest .0 in
+        number-least block rest i c (places-open block (o .head .some-axes) rest (o .table) best (x .placed) i c (position-number block rest m (x .below)))
+
+    pub excess-by : {r : ℕ} → numberAt block rest m +ℤ pos r ≡ numberAt block best m → r ≡ excess block m rest best
+    excess-by {r} e = let q = excess-is rest best in omega (ints, sum (numberAt block rest m) (pos r))
+
+    pub excess-none : excess block m rest best ≤ 0 → numberAt block best m ≤ℤ numberAt block rest m
+    excess-none l = let q = excess-is rest best in omega ints
+
     pub halved-none : numberAt block best m ≤ℤ numberAt block rest m → Halved block m rest best rest best
     halved-none l = record { lowered = lowering-start; less = inl (let q = excess-is rest best in omega ints) }
 
@@ -123,6 +135,3 @@ module _ (block : List ℤ) where
         let q = excess-is rest best in
         let q′ = excess-is v best in
         omega ints
-
-    pub excess-some : leZ (numberAt block best m) (numberAt block rest m) ≡ false → 0 < excess block m rest best
-    excess-some e = let q = excess-is rest best in omega ints

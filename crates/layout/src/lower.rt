@@ -4,11 +4,10 @@ ghost use mathlib.Core.Path.{_≡_};
 ghost use mathlib.Core.Option.{some};
 ghost use Prim.Native.Nat.{suc, _<_};
 ghost use lib.ListN.{length};
-ghost use lib.Signed.{leZ};
-ghost use Rattle.sheet.specs.FirstLayout.{Places, numbers, numberAt, FirstLayout};
+ghost use Rattle.sheet.specs.FirstLayout.{Places, numbers, FirstLayout};
 ghost use Rattle.layout.specs.Search.{Small};
 ghost use Rattle.splits.specs.Splits.{SplitAt};
-ghost use Rattle.layout.specs.Lowering.{OnTable, LeastOf, Probed, Lowering, Halved, Lowered};
+ghost use Rattle.layout.specs.Lowering.{OnTable, LeastOf, Probed, Lowering, excess, Halved, Lowered};
 use crate::find;
 use sheet::LAYOUT_ROWS;
 use sheet::LAYOUT_WORDS;
@@ -26,12 +25,14 @@ fn least_of(block: &[i64], table: &[i64], m: usize) -> Split
     Split { row, column, at }
 }
 
-// Whether the best has the least value that is open in the rest.
-fn is_least(block: &[i64], rest: &[i64], best: &[i64], m: usize) -> bool
+// How far number m of the best is above the least value that is open in the rest.
+fn excess(block: &[i64], rest: &[i64], best: &[i64], m: usize) -> u64
     requires { ⌜ Lowering (now block) m (now rest) (now best) ⌝ }
-    ensures { λ r. ⌜ r ≡ leZ (numberAt (now (block .entry)) (now (best .entry)) m) (numberAt (now (block .entry)) (now (rest .entry)) m) ⌝ }
+    ensures { λ r. ⌜ r ≡ excess (now (block .entry)) m (now (rest .entry)) (now (best .entry)) ⌝ }
 {
-    least_of(block, best, m).at <= least_of(block, rest, m).at
+    let low = least_of(block, rest, m);
+    let high = least_of(block, best, m);
+    splits::gap(low.at, high.at)
 }
 
 // Looks for a placement in the rest that has a value up to the split: it is then the best. Where there is none the rest keeps the values past
@@ -90,7 +91,8 @@ fn lower(
     requires { ⌜ Lowering (now block) m (now rest) (now best) ⌝ }
     ensures { λ _. ⌜ Lowered (now (block .entry)) (suc m) (now (rest .entry)) (now (best .entry)) (now (rest .exit)) (now (best .exit)) ⌝ }
 {
-    while !is_least(block, rest, best, m) {
+    while excess(block, rest, best, m) > 0 {
+        // The best lies inside, so that settling leaves a table.
         find::settled(block, rest);
         halve(block, rest, best, failures, m);
     }

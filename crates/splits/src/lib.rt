@@ -40,7 +40,7 @@ pub fn number(block: &[i64], table: &[i64], row: usize, column: usize) -> i64
 }
 
 // How far high is past low.
-pub(crate) fn gap(low: i64, high: i64) -> u64
+pub fn gap(low: i64, high: i64) -> u64
     requires { ⌜ (low ≤ℤ high) × Within far low × Within far high ⌝ }
     ensures { λ r. ⌜ (low +ℤ pos r ≡ high) × (r ≤ far + far) ⌝ }
 {

@@ -1,5 +1,6 @@
 -- `layout::refusal` meets its contract: the sheet's refusal comes first. Assumes nothing.
 use mathlib.Core.Path.{_≡_, ap}
+use native.Mathlib.Omega.{arith}
 use borrow.Author.Needs.{needs}
 use borrow.Author.Tests.{lt-ltb, le-ltb}
 use denote.Ref.{now}
@@ -28,13 +29,13 @@ returns-2 : tie.Need-returns-2
 unfolding refusalLayout tooManyRows
 returns-2 c =
     refused-last (else-second _ (none (c .before .before))) (ap (ltb layoutRowsMost) (c .before .rows-of .ensures))
-    (lt-ltb layoutRowsMost _ (c .if2 .taken))
+    (lt-ltb layoutRowsMost (c .before .rows-of .result) (omega (arith, c .if2 .taken)))
 
 returns-3 : tie.Need-returns-3
 unfolding refusalLayout tooManyRows
 returns-3 c =
     passed-last 16 (else-second _ (none (c .before .before))) (ap (ltb layoutRowsMost) (c .before .rows-of .ensures))
-    (le-ltb layoutRowsMost _ (c .if2 .left))
+    (le-ltb layoutRowsMost (c .before .rows-of .result) (omega (arith, c .if2 .left)))
 
 pub refusal-spec : {M : Type 1} → statement M
 refusal-spec = tie.close (tie.spec refusal-requires returns rows-of-requires returns-2 returns-3)

@@ -3,13 +3,11 @@ use mathlib.Core.Path.{_≡_, sym, ap, ap₂, _∙_, subst}
 use mathlib.Core.Logic.{⊎-elim}
 use mathlib.Core.List.{List}
 use mathlib.Core.Option.{some}
-use Prim.Native.Nat.{ℕ, suc, _%_}
+use Prim.Native.Nat.{ℕ, suc, _%_, _≤_}
 use native.Mathlib.Omega.{arith}
 use denote.Ref.{now}
 use lib.IntN.{ℤ}
 use lib.ListN.{length}
-use Rattle.integers.proofs.Booleans.{not-true, not-false}
-use Rattle.integers.proofs.Ints.{le-of-test}
 use Rattle.sheet.specs.Settle.{settleOf}
 use Rattle.sheet.specs.Cuts.{HasNumber}
 use Rattle.sheet.specs.FirstLayout.{perRow, numberAt}
@@ -18,7 +16,7 @@ use Rattle.splits.specs.declared.Split.{Split}
 use Rattle.splits.specs.Splits.{uptoValue}
 use Rattle.layout.specs.Lowering.{Lowering, Lowered, LeastOf, excess}
 use Rattle.layout.proofs.Lowers.{lowered-then, lowered-settled, lowered-next}
-use Rattle.layout.proofs.Halves.{on-rest, on-best, lowering-start, lowering-on, settled-found, settled-excess, excess-some}
+use Rattle.layout.proofs.Halves.{on-rest, on-best, lowering-start, lowering-on, excess-none, settled-found, settled-excess}
 use Rattle.layout.proofs.lower.lower.Statement.{statement}
 use Rattle.layout.proofs.lower.lower.Tie as tie
 
@@ -45,8 +43,8 @@ module _ (l : tie.At-loop Inv-loop μ-loop) where
   lowering : Lowering block m (l .loop .rest) (l .loop .best)
   lowering = lowering-on block (s .pre) (l .loop .inv)
 
-is-least-requires : tie.Need-is-least-requires Inv-loop μ-loop
-is-least-requires c κs = lowering (c .before .before)
+excess-requires : tie.Need-excess-requires Inv-loop μ-loop
+excess-requires c κs = lowering (c .before .before)
 
 settled-requires : tie.Need-settled-requires Inv-loop μ-loop
 settled-requires c κs = lowering (c .before .before .before .before .before) .small .accepted
@@ -73,9 +71,8 @@ loop-less c =
     let p = c .before .before in
     let a = p .before .before .before .before .before in
     let d = a .before .before in
-    let some-left = excess-some (block (l a)) (lowering (l a)) (sym (d .before .is-least .ensures) ∙ not-true (d .if1 .taken)) in
     let no-more = settled-excess (block (l a)) (lowering (l a)) (found a) in
-    ⊎-elim (λ e. omega (arith, e, some-left)) (λ e. omega (arith, e, no-more)) (p .halve .ensures .less)
+    ⊎-elim (λ e. omega (arith, e, d .before .excess .ensures, d .if1 .taken)) (λ e. omega (arith, e, no-more)) (p .halve .ensures .less)
 
 loop-again : tie.Need-loop-again Inv-loop μ-loop
 loop-again c =
@@ -104,11 +101,11 @@ module _ (c : tie.After-least-of Inv-loop μ-loop) where
   unfolding numberAt
   fixed =
       let e = c .before .before .before in
-      let test = sym (e .before .is-least .ensures) ∙ not-false (e .if1 .left) in
+      let none-left : excess (block h) (m h) (h .loop .rest) (h .loop .best) ≤ 0 = omega (arith, e .before .excess .ensures, e .if1 .left) in
       let split : ℕ → ℕ → ℤ → List ℤ = λ i k z. uptoValue (block h) (h .loop .rest) i k z in
       subst (λ (w : List ℤ). Lowered (block h) (suc (m h)) (now (s h .args .rest)) (now (s h .args .best)) w (h .loop .best))
       (sym (ap (split (r .row) (r .column)) (is .least) ∙ ap₂ (λ (i k : ℕ). split i k (numberAt (block h) (h .loop .best) (m h))) (is .row) (is .column)))
-      (lowered-next (block h) (h .loop .inv) (lowering h .below) (le-of-test test))
+      (lowered-next (block h) (h .loop .inv) (lowering h .below) (excess-none (block h) (lowering h) none-left))
 
 keep-upto-requires : tie.Need-keep-upto-requires Inv-loop μ-loop
 keep-upto-requires c κs =
@@ -145,7 +142,7 @@ lower-spec =
     Inv-loop
     μ-loop
     loop-holds
-    is-least-requires
+    excess-requires
     settled-requires
     halve-requires
     loop-less

@@ -53,17 +53,18 @@
      13   the rule asked about is outside 1 to R, is of kind 1 or does not name every dimension
      14   that rule's room has no cells or more than 4,096
      15   the placement is not good
+     16   the table has more than eight rows
 
-   2 to 15 are refusals; the first that applies is given, in this order. 1 is the refusal of a text and
+   2 to 16 are refusals; the first that applies is given, in this order. 1 is the refusal of a text and
    is never given here. Every function makes the checks 2 to 8 itself, so zk_refusal need not be called
    first.
 
-   What is written: the block never; the table by zk_narrow and zk_settle only, and only when they find
-   0. With -1 or a refusal every word is as it was.
+   What is written: the block never; the table by zk_narrow, zk_settle and zk_first_layout only, and only
+   when they find 0. With -1 or a refusal every word is as it was.
 
    Pointers: block and table point to as many words as their length says, aligned as int64_t is, and are
-   not null, not even with a length of 0. In zk_narrow and zk_settle the two may not overlap. No other
-   thread may write the words during a call, and in zk_narrow and zk_settle none may read the table.
+   not null, not even with a length of 0. In the three functions that write the table the two may not
+   overlap. No other thread may write the words during a call, and in those three none may read the table.
    Nothing else is asked: words and numbers may have any value.
 
    There is no global state, no memory is allocated and no pointer is kept, so calls on different tables
@@ -134,6 +135,14 @@ int64_t zk_narrow(const int64_t *block, size_t block_len, int64_t *table, size_t
    done. -1: no layout, some row has no place left. A settled table need not contain a layout; for a fixed
    placement ask zk_check_placement. Refusals 2 to 8. */
 int64_t zk_settle(const int64_t *block, size_t block_len, int64_t *table, size_t table_len);
+
+/* The first whole layout. A good placement lies inside the table when each of its shapes is in the row's set
+   and each of its coordinates in the row's range. Placements are compared by row 1's shape number, then by
+   its coordinates from dimension 0 up, then by row 2's shape number, and so on; the first in which they
+   differ decides, and the lesser comes first.
+   0: placed: the table is the first good placement inside the one that was given. -1: none, no good
+   placement lies inside it. Refusals 2 to 8 and 16. */
+int64_t zk_first_layout(const int64_t *block, size_t block_len, int64_t *table, size_t table_len);
 
 /* How two rows of a fixed placement stand to each other in a dimension. A row runs there from the lowest
    start to the highest end of its boxes, offsets and the row's coordinate included; gaps between boxes

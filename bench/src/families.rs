@@ -29,8 +29,8 @@ fn ordinary() -> Vec<Family> {
         ordinary("k 2, half filled, clearances", |random| filling(random, 2, 50, 100)),
         ordinary("k 2, half filled, two shapes", |random| turned(random, 50)),
         ordinary("k 2, three fixed pillars", pillars),
-        ordinary("k 3, filled to 0.3", |random| filling(random, 3, 30, 0)),
-        ordinary("k 4, filled to 0.2", |random| filling(random, 4, 20, 0)),
+        ordinary("k 3, filled to 0.4", |random| filling(random, 3, 40, 0)),
+        ordinary("k 4, filled to 0.3", |random| filling(random, 4, 30, 0)),
     ]
 }
 

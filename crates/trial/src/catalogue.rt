@@ -2,8 +2,8 @@
 // It shares no code with the kernel, and what document 01 says of forbidden points is not used.
 use super::brute;
 use super::brute::last_shape;
-use super::layout;
 use super::numbers::sum;
+use super::words;
 
 // Whether in dimension d box b of row i starts at or past the end of box c of row j plus the rule's clearance.
 fn is_past(
@@ -16,10 +16,10 @@ fn is_past(
     c: usize,
     d: usize,
 ) -> bool {
-    let start = sum(layout::low(block, table, i, d), layout::offset(block, b, d));
-    let other = sum(layout::low(block, table, j, d), layout::offset(block, c, d));
-    let end = sum(other, layout::size(block, c, d));
-    start >= sum(end, layout::clearance(block, r, d))
+    let start = sum(words::low(block, table, i, d), words::offset(block, b, d));
+    let other = sum(words::low(block, table, j, d), words::offset(block, c, d));
+    let end = sum(other, words::size(block, c, d));
+    start >= sum(end, words::clearance(block, r, d))
 }
 
 // Whether dimension d is named and parts the two boxes.
@@ -33,7 +33,7 @@ fn parts(
     c: usize,
     d: usize,
 ) -> bool {
-    layout::names_dim(block, r, d)
+    words::names_dim(block, r, d)
         && (is_past(block, table, r, i, b, j, c, d) || is_past(block, table, r, j, c, i, b, d))
 }
 
@@ -47,7 +47,7 @@ fn boxes_apart(
     j: usize,
     c: usize,
 ) -> bool {
-    let k = layout::dims(block);
+    let k = words::dims(block);
     let mut d = 0;
     while d < k && !parts(block, table, r, i, b, j, c, d) {
         d = d + 1;
@@ -56,20 +56,20 @@ fn boxes_apart(
 }
 
 fn box_apart(block: &[i64], table: &[i64], r: usize, i: usize, b: usize, j: usize) -> bool {
-    let s = last_shape(layout::shape_set(block, table, j));
-    let n = layout::boxes(block);
+    let s = last_shape(words::shape_set(block, table, j));
+    let n = words::boxes(block);
     let mut c = 0;
-    while c < n && (layout::is_other(block, c, s) || boxes_apart(block, table, r, i, b, j, c)) {
+    while c < n && (words::is_other(block, c, s) || boxes_apart(block, table, r, i, b, j, c)) {
         c = c + 1;
     }
     c == n
 }
 
 fn rows_apart(block: &[i64], table: &[i64], r: usize, i: usize, j: usize) -> bool {
-    let s = last_shape(layout::shape_set(block, table, i));
-    let n = layout::boxes(block);
+    let s = last_shape(words::shape_set(block, table, i));
+    let n = words::boxes(block);
     let mut b = 0;
-    while b < n && (layout::is_other(block, b, s) || box_apart(block, table, r, i, b, j)) {
+    while b < n && (words::is_other(block, b, s) || box_apart(block, table, r, i, b, j)) {
         b = b + 1;
     }
     b == n
@@ -78,25 +78,25 @@ fn rows_apart(block: &[i64], table: &[i64], r: usize, i: usize, j: usize) -> boo
 // Whether row i overlaps no row before it.
 fn row_apart(block: &[i64], table: &[i64], r: usize, i: usize) -> bool {
     let mut j = 0;
-    while j < i && (!layout::names_row(block, r, j) || rows_apart(block, table, r, i, j)) {
+    while j < i && (!words::names_row(block, r, j) || rows_apart(block, table, r, i, j)) {
         j = j + 1;
     }
     j == i
 }
 
 fn row_meets(block: &[i64], table: &[i64], r: usize, i: usize) -> bool {
-    if !layout::names_row(block, r, i) {
+    if !words::names_row(block, r, i) {
         return true;
     }
-    if layout::kind(block, r) == 1 {
+    if words::kind(block, r) == 1 {
         return row_apart(block, table, r, i);
     }
-    let s = last_shape(layout::shape_set(block, table, i));
+    let s = last_shape(words::shape_set(block, table, i));
     brute::shape_inside(block, r, s, brute::point(block, table, i, 0, 0))
 }
 
 fn rule_holds(block: &[i64], table: &[i64], r: usize) -> bool {
-    let n = layout::rows(block, table);
+    let n = words::rows(block, table);
     let mut i = 0;
     while i < n && row_meets(block, table, r, i) {
         i = i + 1;
@@ -105,7 +105,7 @@ fn rule_holds(block: &[i64], table: &[i64], r: usize) -> bool {
 }
 
 pub(crate) fn is_good(block: &[i64], table: &[i64]) -> bool {
-    let n = layout::rules(block);
+    let n = words::rules(block);
     let mut r = 0;
     while r < n && rule_holds(block, table, r) {
         r = r + 1;

@@ -5,13 +5,10 @@ use super::brute::NOWHERE;
 use super::fills;
 use super::findings;
 use super::findings::found;
+use super::firsts;
 use super::generate;
 use super::generate::TABLE;
 use super::inside;
-use super::layout;
-use super::layout::RECORD;
-use super::layout::number;
-use super::layout::word;
 use super::numbers;
 use super::numbers::below;
 use super::numbers::from;
@@ -21,6 +18,10 @@ use super::refusals;
 use super::refusals::index;
 use super::relations;
 use super::tally::Tally;
+use super::words;
+use super::words::RECORD;
+use super::words::number;
+use super::words::word;
 use sheet::Bound;
 use sheet::Narrowing;
 use sheet::PointTest;
@@ -109,7 +110,7 @@ pub(crate) fn ends(
 fn shape_ends(t: Tally, block: &[i64], table: &[i64], i: usize, s: usize) -> Tally {
     let r = brute::shape_reach(block, table, i, s, NOWHERE);
     let finding = found(word(r, 0) != 0);
-    let k = layout::dims(block);
+    let k = words::dims(block);
     let mut u = t;
     for d in 0..k {
         u = ends(
@@ -130,7 +131,7 @@ fn shape_ends(t: Tally, block: &[i64], table: &[i64], i: usize, s: usize) -> Tal
 fn shapes(t: Tally, block: &[i64], table: &[i64], i: usize) -> Tally {
     let mut u = t;
     for s in 0..32 {
-        if layout::has_shape(block, table, i, s) {
+        if words::has_shape(block, table, i, s) {
             u = shape_ends(u, block, table, i, s);
             u = points(u, block, table, i, s);
         }
@@ -207,16 +208,21 @@ fn judging(t: Tally, block: &[i64], table: &[i64]) -> Tally {
     u.with_verdict(finding)
 }
 
+// A placement of the kernel's own.
+pub(crate) fn judged_good(t: Tally, block: &[i64], table: &[i64]) -> Tally {
+    t.compared(verdict_is(placement::check_placement(block, table), 0))
+}
+
 // ---- a row, handed out
 
 // The words of a row as brute force reads them; none where there is a refusal.
 fn handing(t: Tally, block: &[i64], table: &[i64], row: i64) -> Tally {
-    let k = layout::dims(block);
+    let k = words::dims(block);
     let g = refusals::row_refusal(block, table, row);
-    let n = if g > 0 { 0 } else { layout::row_len(k) };
+    let n = if g > 0 { 0 } else { words::row_len(k) };
     let u = t.compared(accept::row_refusal(block, table, row) == g);
     let part = accept::row_slice(block, table, row);
-    let first = layout::row_place(k, index(row));
+    let first = words::row_place(k, index(row));
     u.compared(numbers::is_run(part, table, first, n))
 }
 
@@ -262,7 +268,7 @@ fn requested_ends(t: Tally, block: &[i64], table: &[i64], row: i64, shape: i64, 
 
 // One of each kind of request. The number that was drawn for the shape is also that of the other row, and that for the dimension of the rule.
 fn request(t: Tally, seed: &mut usize, block: &[i64], table: &[i64]) -> Tally {
-    let n = numbers::plus(layout::rows(block, table), 4);
+    let n = numbers::plus(words::rows(block, table), 4);
     let row = some_number(seed, &ODD_ROWS, 12, n);
     let shape = some_number(seed, &ODD_SHAPES, 10, 5);
     let p = some_point(seed);
@@ -289,7 +295,7 @@ fn requests(t: Tally, seed: &mut usize, block: &[i64], table: &[i64]) -> Tally {
 fn placed(t: Tally, seed: &mut usize, block: &[i64], table: &[i64]) -> Tally {
     let mut room = [0i64; TABLE];
     let fixed = numbers::copied(&mut room, table);
-    generate::fix(seed, fixed, layout::row_len(layout::dims(block)));
+    generate::fix(seed, fixed, words::row_len(words::dims(block)));
     let u = relations::pairs(judging(t, block, fixed), block, fixed);
     let v = fills::rules(u, block, fixed);
     change(v, block, fixed, true, 0, false)
@@ -307,7 +313,7 @@ fn placements(t: Tally, seed: &mut usize, block: &[i64], table: &[i64]) -> Tally
 pub(crate) fn room(t: Tally, seed: &mut usize, block: &[i64], table: &[i64]) -> Tally {
     let mut words = [0i64; TABLE];
     let fixed = numbers::copied(&mut words, table);
-    generate::fix(seed, fixed, layout::row_len(layout::dims(block)));
+    generate::fix(seed, fixed, words::row_len(words::dims(block)));
     let u = t.with_sheet(false, false);
     fills::rules(judging(u, block, fixed), block, fixed)
 }
@@ -315,7 +321,7 @@ pub(crate) fn room(t: Tally, seed: &mut usize, block: &[i64], table: &[i64]) -> 
 // ---- a sheet
 
 fn rows(t: Tally, block: &[i64], table: &[i64]) -> Tally {
-    let n = layout::rows(block, table);
+    let n = words::rows(block, table);
     let mut u = t;
     for i in 0..n {
         u = change(u, block, table, false, number(i), false);
@@ -339,7 +345,8 @@ pub(crate) fn sheet(
     if large {
         return u;
     }
-    let v = requests(judging(u, block, table), seed, block, table);
+    let f = firsts::sheet(u, block, table);
+    let v = requests(judging(f, block, table), seed, block, table);
     let w = change(v, block, table, true, 0, true);
     if g > 0 || kind == plan::LARGER {
         return w;

@@ -1,8 +1,4 @@
 // Sheets by chance, drawn record by record after a plan; sheets with a word or a length that is out of its range; placements.
-use super::layout;
-use super::layout::RECORD;
-use super::layout::put_record;
-use super::layout::with_word;
 use super::numbers;
 use super::numbers::below;
 use super::numbers::from;
@@ -15,6 +11,10 @@ use super::numbers::sum;
 use super::plan;
 use super::plan::Pairs;
 use super::plan::Plan;
+use super::words;
+use super::words::RECORD;
+use super::words::put_record;
+use super::words::with_word;
 
 // A sheet is drawn into one run of words: its block from word 0 on, its table from word BLOCK on. These are the most words of both.
 pub const BLOCK: usize = 1507;
@@ -97,7 +97,7 @@ fn box_shape(seed: &mut usize, shapes: usize, b: usize) -> i64 {
         return 1;
     }
     if b < shapes {
-        return layout::number(b);
+        return words::number(b);
     }
     from(seed, 1, shapes)
 }
@@ -149,7 +149,7 @@ fn rule_record(seed: &mut usize, p: Plan, r: usize) -> [i64; RECORD] {
     if p.kind == plan::ROOM && plus(r, 1) == p.rules {
         return fill_rule(seed, p);
     }
-    if p.kind == plan::SMALL || p.kind == plan::ROOM {
+    if p.kind == plan::SMALL || p.kind == plan::ROOM || p.kind == plan::CROWD {
         return some_rule(seed, p);
     }
     if p.kind == plan::POSITION {
@@ -213,9 +213,9 @@ fn drawn(seed: &mut usize, p: Plan, what: usize, m: usize) -> [i64; RECORD] {
 // Where record m of a kind stands.
 fn place_of(p: Plan, what: usize, m: usize) -> usize {
     match what {
-        BOX => layout::box_place(p.k, m),
-        RULE => layout::rule_place(p.k, p.boxes, m),
-        _ => plus(BLOCK, layout::row_place(p.k, m)),
+        BOX => words::box_place(p.k, m),
+        RULE => words::rule_place(p.k, p.boxes, m),
+        _ => plus(BLOCK, words::row_place(p.k, m)),
     }
 }
 
@@ -244,8 +244,8 @@ pub(crate) fn sheet(seed: &mut usize, words: &mut [i64], kind: usize, m: usize) 
     let p = plan::of(seed, kind, m);
     draw(seed, words, p);
     let z = Lengths {
-        block: layout::rule_place(p.k, p.boxes, p.rules),
-        table: layout::row_place(p.k, p.rows),
+        block: words::rule_place(p.k, p.boxes, p.rules),
+        table: words::row_place(p.k, p.rows),
     };
     if kind == plan::SMALL && one_of(seed, 4) {
         return spoiled_again(seed, words, z);

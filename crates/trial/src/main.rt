@@ -1,5 +1,5 @@
 // Holds the kernel against brute force: the rotations, document 01's positions that are not marked, then some thousands of small sheets by
-// chance, some dozens of larger ones and some thousands of rooms. It prints how many were run, how many answers were compared, and how many
+// chance, some dozens of larger ones and some thousands of rooms and of crowds. It prints how many were run, how many answers were compared, and how many
 // differ.
 mod brute; // brute.rt: what is allowed, by definition; every point tried
 mod catalogue; // catalogue.rt: good placements
@@ -7,14 +7,16 @@ mod compare; // compare.rt: kernel and brute force
 mod edges; // edges.rt: the positions
 mod fills; // fills.rt: the fill of a room
 mod findings; // findings.rt: what brute force finds
+mod firsts; // firsts.rt: the first whole layout
 mod generate; // generate.rt: sheets by chance
 mod inside; // inside.rt: good placements and what settling leaves
-mod layout; // layout.rt: the words of a sheet
+mod words; // words.rt: the words of a sheet
 mod numbers; // numbers.rt: sums and places
 mod plan; // plan.rt: what the sheets are made of
 mod refusals; // refusals.rt: the grounds
 mod relations; // relations.rt: how two rows stand to each other
 mod rotations; // rotations.rt: the order of a sweep's dimensions
+mod squares; // squares.rt: five squares in a room
 mod tally; // tally.rt: what is counted
 
 use generate::BLOCK;
@@ -22,12 +24,14 @@ use generate::WORDS;
 use libc::STDOUT_FILENO;
 use tally::Tally;
 
-// How many small and how many larger sheets are tried, and how many rooms.
+// How many small and how many larger sheets are tried, and how many rooms and crowds.
 const SHEETS: usize = 10000;
 
 const LARGER: usize = 300;
 
 const ROOMS: usize = 8000;
+
+const CROWDS: usize = 4000;
 
 // Sheet m of a kind.
 fn sheet(t: Tally, seed: &mut usize, kind: usize, m: usize) -> Tally {
@@ -40,6 +44,9 @@ fn sheet(t: Tally, seed: &mut usize, kind: usize, m: usize) -> Tally {
     }
     if kind == plan::ROOM {
         return compare::room(t, seed, block, table);
+    }
+    if kind == plan::CROWD {
+        return firsts::sheet(t.with_sheet(false, false), block, table);
     }
     compare::sheet(t, seed, block, table, kind)
 }
@@ -88,6 +95,11 @@ fn print_fills(t: Tally) {
     print(b", with a cell in several boxes ", t.shared);
 }
 
+fn print_firsts(t: Tally) {
+    print(b"first layouts: placed ", t.placed);
+    print(b", none ", t.unplaced);
+}
+
 fn print_compared(text: &[u8], t: Tally) {
     print(text, t.compared);
     print(b", differences: ", t.differ);
@@ -105,6 +117,8 @@ fn main() {
     print_fills(t);
     print(b"\ntiny sheets: ", t.tiny);
     print(b", good placements inside what was settled ", t.inside);
+    io::write_all(STDOUT_FILENO, b"\n");
+    print_firsts(t);
     print_compared(b"\ncomparisons: ", t);
     let l = sheets(plan::LARGER, LARGER, 362436069362436069);
     print_sheets(b"larger sheets: ", l);
@@ -114,4 +128,10 @@ fn main() {
     print_placements(b", placements: good ", r);
     print_fills(r);
     print_compared(b"\ncomparisons: ", r);
+    let c = sheets(plan::CROWD, CROWDS, 123456789123456789);
+    print(b"crowds: ", c.run);
+    io::write_all(STDOUT_FILENO, b", ");
+    print_firsts(c);
+    print_compared(b"\ncomparisons: ", c);
+    print_compared(b"five squares, comparisons: ", squares::both());
 }

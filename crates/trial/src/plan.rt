@@ -1,4 +1,4 @@
-// What the sheets are made of: small ones by chance, larger ones by chance, rooms to be filled, and the positions.
+// What the sheets are made of: small ones by chance, larger ones by chance, rooms to be filled, crowds, and the positions.
 use super::edges;
 use super::numbers;
 use super::numbers::below;
@@ -13,6 +13,8 @@ pub const LARGER: usize = 1;
 pub const POSITION: usize = 2;
 
 pub const ROOM: usize = 3;
+
+pub const CROWD: usize = 4;
 
 // How k pairs of words of a record are drawn. Pair d starts at word `at` + `step` * d, and its second word stands `gap` words after the
 // first. The first is one of `n` words from `first` on, the second one of `more` words from `then` on; of a range it is so much past the
@@ -190,6 +192,26 @@ fn room(seed: &mut usize) -> Plan {
     }
 }
 
+// ---- crowds
+
+// A crowd: five to nine rows, of one or two shapes, in one or two dimensions. A range has one or two numbers, so that many crowds are tiny.
+fn crowd(seed: &mut usize) -> Plan {
+    let k = plus(1, below(seed, 2));
+    let shapes = plus(1, below(seed, 2));
+    Plan {
+        kind: CROWD,
+        k,
+        boxes: plus(shapes, below(seed, 2)),
+        rules: plus(1, below(seed, 2)),
+        rows: plus(5, below(seed, 5)),
+        shapes,
+        extents: extents(k, 0, 2, 1, 2),
+        ranges: ranges(1, 0, 16, 0, 2),
+        rooms: ranges(3, 0, 1, 16, 4),
+        clearances: clearances(2),
+    }
+}
+
 // ---- all
 
 // The plan of sheet m of a kind.
@@ -198,6 +220,7 @@ pub(crate) fn of(seed: &mut usize, kind: usize, m: usize) -> Plan {
         SMALL => small(seed),
         LARGER => larger(seed, m),
         ROOM => room(seed),
+        CROWD => crowd(seed),
         _ => edges::plan(m),
     }
 }

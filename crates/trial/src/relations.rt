@@ -2,7 +2,6 @@
 // shares no code with the kernel.
 use super::brute;
 use super::compare;
-use super::layout;
 use super::numbers;
 use super::numbers::count_of;
 use super::numbers::difference;
@@ -12,6 +11,7 @@ use super::numbers::word_of;
 use super::refusals;
 use super::refusals::index;
 use super::tally::Tally;
+use super::words;
 use sheet::Allen;
 use sheet::Standing;
 
@@ -22,16 +22,16 @@ struct Interval {
 }
 
 fn interval_of(block: &[i64], table: &[i64], i: usize, d: usize) -> Interval {
-    let s = brute::last_shape(layout::shape_set(block, table, i));
-    let n = layout::boxes(block);
+    let s = brute::last_shape(words::shape_set(block, table, i));
+    let n = words::boxes(block);
     let mut x = Interval {
         origin: i64::MAX,
         end: i64::MIN,
     };
     for b in 0..n {
-        if !layout::is_other(block, b, s) {
-            let start = sum(layout::low(block, table, i, d), layout::offset(block, b, d));
-            let end = sum(start, layout::size(block, b, d));
+        if !words::is_other(block, b, s) {
+            let start = sum(words::low(block, table, i, d), words::offset(block, b, d));
+            let end = sum(start, words::size(block, b, d));
             x = Interval {
                 origin: numbers::lesser(x.origin, start),
                 end: numbers::greater(x.end, end),
@@ -106,7 +106,7 @@ pub(crate) fn pair(
 
 // Every dimension, and one past each side.
 fn dims(t: Tally, block: &[i64], table: &[i64], row: i64, other: i64) -> Tally {
-    let n = plus(layout::dims(block), 2);
+    let n = plus(words::dims(block), 2);
     let mut u = t;
     for d in 0..n {
         u = pair(u, block, table, row, other, difference(word_of(d), 1));
@@ -115,7 +115,7 @@ fn dims(t: Tally, block: &[i64], table: &[i64], row: i64, other: i64) -> Tally {
 }
 
 fn others(t: Tally, block: &[i64], table: &[i64], row: i64) -> Tally {
-    let n = plus(layout::rows(block, table), 2);
+    let n = plus(words::rows(block, table), 2);
     let mut u = t;
     for j in 0..n {
         u = dims(u, block, table, row, word_of(j));
@@ -125,7 +125,7 @@ fn others(t: Tally, block: &[i64], table: &[i64], row: i64) -> Tally {
 
 // Every two rows, and one past each side.
 pub(crate) fn pairs(t: Tally, block: &[i64], table: &[i64]) -> Tally {
-    let n = plus(layout::rows(block, table), 2);
+    let n = plus(words::rows(block, table), 2);
     let mut u = t;
     for i in 0..n {
         u = others(u, block, table, word_of(i));

@@ -15,6 +15,8 @@ pub struct Tally {
     pub kinds: i64, // the relations that were found, as a set of their numbers
     pub filled: u64, // rules of which a fill was found
     pub shared: u64, // of these, in which two boxes share a cell
+    pub placed: u64, // tiny sheets with a first layout
+    pub unplaced: u64, // tiny sheets with none
     pub tiny: u64, // sheets of which every placement was tried
     pub inside: u64, // of these placements, the good ones that lie inside what settling left
     pub compared: u64, // answers, tables and good placements
@@ -40,6 +42,8 @@ impl Tally {
             kinds: 0,
             filled: 0,
             shared: 0,
+            placed: 0,
+            unplaced: 0,
             tiny: 0,
             inside: 0,
             compared: 0,
@@ -93,6 +97,12 @@ impl Tally {
     pub(crate) fn with_fill(mut self, shared: bool) -> Self {
         self.filled = and(self.filled, true);
         self.shared = and(self.shared, shared);
+        self
+    }
+
+    pub(crate) fn with_first(mut self, finding: i64) -> Self {
+        self.placed = and(self.placed, finding == 0);
+        self.unplaced = and(self.unplaced, finding == -1);
         self
     }
 

@@ -1,8 +1,8 @@
--- `trial::layout::rows` is safe and ends: n runs up to 33. Assumes nothing.
+-- `trial::words::rows` is safe and ends: n runs up to 33. Assumes nothing.
 use Prim.Native.Nat.{_≤_, _-_}
 use borrow.Author.Needs.{needs}
-use Rattle.trial.proofs.layout.rows.Statement.{statement}
-use Rattle.trial.proofs.layout.rows.Tie as tie
+use Rattle.trial.proofs.words.rows.Statement.{statement}
+use Rattle.trial.proofs.words.rows.Tie as tie
 
 abbrev Inv-loop : tie.InvT-loop
 Inv-loop block table k n₀ n = n ≤ 33

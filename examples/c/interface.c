@@ -75,6 +75,7 @@ static void refused(const char *what, int64_t number, const int64_t *block, size
     same_bound(what, number, 0, zk_greatest(b, block_len, t, table_len, 1, 1, 0));
     same(what, number, zk_narrow(b, block_len, t, table_len, 1));
     same(what, number, zk_settle(b, block_len, t, table_len));
+    same(what, number, zk_first_layout(b, block_len, t, table_len));
     same_span(what, 0, 0, zk_row_span(b, block_len, t, table_len, 1));
     same_standing(what, number, 0, zk_relation(b, block_len, t, table_len, 1, 2, 0));
     same_share(what, number, 0, 0, zk_fill(b, block_len, t, table_len, 1));
@@ -371,6 +372,147 @@ static void fills_in_four(void)
     same_share("and none in the last", 14, 0, 0, zk_fill(block, WORDS, row, 9, 1));
 }
 
+/* No block and no table given to zk_first_layout below has more words than these: k = 4, a box, a rule and eight
+   rows. */
+enum { LAYOUT_BLOCK = 23, LAYOUT_TABLE = 72 };
+
+static void make_alike(int64_t *table, size_t rows, const int64_t *row, size_t row_words)
+{
+    for (size_t i = 0; i < rows * row_words; i++)
+        table[i] = row[i % row_words];
+}
+
+/* The finding, and the words left in the table. No word of the block changes; a placement is good and, given
+   again, stays. */
+static void lays(const char *what, const int64_t *block, size_t block_len, const int64_t *table,
+                 size_t table_len, int64_t finding, const int64_t *left)
+{
+    int64_t b[LAYOUT_BLOCK], t[LAYOUT_TABLE];
+    memcpy(b, block, block_len * sizeof *b);
+    memcpy(t, table, table_len * sizeof *t);
+    same(what, finding, zk_first_layout(b, block_len, t, table_len));
+    same_words(what, left, t, table_len);
+    if (finding == 0) {
+        same(what, 0, zk_check_placement(b, block_len, t, table_len));
+        same(what, 0, zk_first_layout(b, block_len, t, table_len));
+        same_words(what, left, t, table_len);
+    }
+    same_words(what, block, b, block_len);
+}
+
+/* A and B, with ranges, fixed, one unit apart, and with several shapes. */
+static void layouts_of_two(void)
+{
+    static const int64_t unit[BLOCK] = {1, 2, 1,  1, 0, 3,  2, 0, 2,  1, 1, 3, 1, 0};
+    static const int64_t no_rule[] = {1, 2, 0,  1, 0, 3,  2, 0, 2};
+    static const int64_t sizes[MOST] = {1, 3, 1,  1, 0, 3,  2, 0, 4,  3, 0, 2,  1, 1, 3, 0, 0};
+    static const int64_t either[TABLE] = {3, 0, 0,  4, -1, 5};
+    static const int64_t least[TABLE] = {1, 0, 0,  2, -2, -2};
+    static const int64_t at4[TABLE] = {1, 0, 0,  2, 4, 4};
+    static const int64_t size_3[TABLE] = {1, 0, 0,  4, 3, 3};
+    static const int64_t any[TABLE] = {3, -1000000, 1000000,  3, 0, 9};
+    static const int64_t all_least[TABLE] = {1, -1000000, -1000000,  1, 0, 0};
+    lays("B before A", good, BLOCK, wide, TABLE, 0, least);
+    lays("B past A", good, BLOCK, pushed, TABLE, 0, touching);
+    lays("B has no place", good, BLOCK, blocked, TABLE, -1, blocked);
+    lays("a good placement stays", good, BLOCK, touching, TABLE, 0, touching);
+    lays("a fixed table that is not good", good, BLOCK, overlapping, TABLE, -1, overlapping);
+    lays("touching is too near for it", unit, BLOCK, touching, TABLE, -1, touching);
+    lays("B past the clearance", unit, BLOCK, wide, TABLE, 0, at4);
+    lays("the lower of two shapes", sizes, MOST, either, TABLE, 0, size_3);
+    lays("no rule", no_rule, 9, any, TABLE, 0, all_least);
+}
+
+/* Rows in a line: three of size 2 in a room 0 to 5 and in one 0 to 6; shape 1 at 2 before shape 2 at 0; the low
+   end of row 1 while row 2 gives way; and one that lies in no layout. */
+static void layouts_in_line(void)
+{
+    static const int64_t room5[] = {1, 1, 2,  1, 0, 2,  1, 1, 7, 0, 0,  2, 1, 7, 0, 5};
+    static const int64_t room6[] = {1, 1, 2,  1, 0, 2,  1, 1, 7, 0, 0,  2, 1, 7, 0, 6};
+    static const int64_t to3[] = {1, 0, 3,  1, 0, 3,  1, 0, 3};
+    static const int64_t to4[] = {1, 0, 4,  1, 0, 4,  1, 0, 4};
+    static const int64_t filled6[] = {1, 0, 0,  1, 2, 2,  1, 4, 4};
+    static const int64_t shapes[] = {1, 2, 1,  1, 0, 3,  2, 0, 1,  1, 1, 3, 0, 0};
+    static const int64_t either[TABLE] = {3, 0, 6,  2, 1, 1};
+    static const int64_t shape_1[TABLE] = {1, 2, 2,  2, 1, 1};
+    static const int64_t pair[] = {1, 1, 1,  1, 0, 2,  1, 1, 3, 0, 0};
+    static const int64_t from1[TABLE] = {1, 1, 9,  1, 0, 9};
+    static const int64_t row_1_first[TABLE] = {1, 1, 1,  1, 3, 3};
+    static const int64_t tens[] = {1, 1, 1,  1, 0, 10,  1, 1, 7, 0, 0};
+    static const int64_t to30[] = {1, 0, 30,  1, 0, 15,  1, 0, 15};
+    static const int64_t row_1_last[] = {1, 20, 20,  1, 0, 0,  1, 10, 10};
+    lays("three in 0 to 5", room5, 16, to3, 9, -1, to3);
+    lays("three in 0 to 6", room6, 16, to4, 9, 0, filled6);
+    lays("shapes before coordinates", shapes, 14, either, TABLE, 0, shape_1);
+    lays("row 1 before row 2", pair, 11, from1, TABLE, 0, row_1_first);
+    lays("row 1 not at its low end", tens, 11, to30, 9, 0, row_1_last);
+}
+
+/* Bars of 2 by 1 in a line, and five squares of 1,000 in a room of 2,999 by 2,999 and in one of 3,000. */
+static void layouts_in_two(void)
+{
+    enum { ROWS = 5, WORDS = 5, ROOM_WIDTH = 19 };
+    static const int64_t bars[] = {2, 1, 1,  1, 0, 0, 2, 1,  1, 3, 7, 0, 0, 0, 0};
+    static const int64_t line[] = {1, 0, 6, 0, 0,  1, 0, 2, 0, 0,  1, 0, 2, 0, 0};
+    static const int64_t row_1_last[] = {1, 4, 4, 0, 0,  1, 0, 0, 0, 0,  1, 2, 2, 0, 0};
+    static const int64_t anywhere[WORDS] = {1, -1000000, 1000000, -1000000, 1000000};
+    static const int64_t corners[ROWS * WORDS] = {
+        1, 0, 0, 0, 0,  1, 0, 0, 1000, 1000,  1, 1000, 1000, 0, 0,  1, 1000, 1000, 1000, 1000,
+        1, 2000, 2000, 0, 0,
+    };
+    int64_t squares[] = {
+        2, 1, 2,  1, 0, 0, 1000, 1000,  1, 3, 31, 0, 0, 0, 0,  2, 3, 31, 0, 2999, 0, 2999,
+    };
+    int64_t open[ROWS * WORDS];
+    make_alike(open, ROWS, anywhere, WORDS);
+    lays("bars in a line", bars, 15, line, 15, 0, row_1_last);
+    lays("squares in 2,999 by 2,999", squares, 22, open, ROWS * WORDS, -1, open);
+    squares[ROOM_WIDTH] = 3000;
+    lays("squares in 3,000 by 2,999", squares, 22, open, ROWS * WORDS, 0, corners);
+}
+
+/* k = 4: eight boxes of 10,000 a side, anywhere. */
+static void layouts_in_four(void)
+{
+    enum { ROWS = 8, WORDS = 9, LAST_LOW = 7, FAR = 1000000 };
+    static const int64_t block[] = {
+        4, 1, 1,  1, 0, 0, 0, 0, 10000, 10000, 10000, 10000,  1, 15, 255, 0, 0, 0, 0, 0, 0, 0, 0,
+    };
+    static const int64_t anywhere[WORDS] = {1, -FAR, FAR, -FAR, FAR, -FAR, FAR, -FAR, FAR};
+    static const int64_t corner[WORDS] = {1, -FAR, -FAR, -FAR, -FAR, -FAR, -FAR, -FAR, -FAR};
+    int64_t open[ROWS * WORDS], stack[ROWS * WORDS];
+    make_alike(open, ROWS, anywhere, WORDS);
+    make_alike(stack, ROWS, corner, WORDS);
+    for (int i = 0; i < ROWS; i++)
+        stack[i * WORDS + LAST_LOW] = stack[i * WORDS + LAST_LOW + 1] = -FAR + 10000 * i;
+    lays("eight in four dimensions", block, 23, open, ROWS * WORDS, 0, stack);
+}
+
+/* Rows of size 2 in a line, the first eight of them apart: eight are accepted, nine are not; a ground before 16
+   is given first. */
+static void layouts_of_many(void)
+{
+    enum { WORDS = 3, MOST_ROWS = 33, MANY_WORDS = MOST_ROWS * WORDS, RULE_KIND = 6 };
+    static const int64_t row[WORDS] = {1, 0, 14};
+    int64_t block[] = {1, 1, 1,  1, 0, 2,  1, 1, 255, 0, 0};
+    int64_t open[MANY_WORDS], t[MANY_WORDS], line[8 * WORDS];
+    make_alike(open, MOST_ROWS, row, WORDS);
+    make_alike(line, 8, row, WORDS);
+    for (int i = 0; i < 8; i++)
+        line[i * WORDS + 1] = line[i * WORDS + 2] = 2 * i;
+    lays("eight rows", block, 11, open, 8 * WORDS, 0, line);
+    lays("nine rows", block, 11, open, 9 * WORDS, 16, open);
+    memcpy(t, open, sizeof t);
+    same("32 rows", 16, zk_first_layout(block, 11, t, 32 * WORDS));
+    same("33 rows", 5, zk_first_layout(block, 11, t, 33 * WORDS));
+    same_words("many rows", open, t, MANY_WORDS);
+    t[8 * WORDS + 1] = 15;
+    lays("nine rows, the last one bad", block, 11, t, 9 * WORDS, 8, t);
+    lays("the eight before it", block, 11, t, 8 * WORDS, 0, line);
+    block[RULE_KIND] = 3;
+    lays("nine rows and a bad rule", block, 11, open, 9 * WORDS, 7, open);
+}
+
 int main(void)
 {
     refusals();
@@ -383,6 +525,11 @@ int main(void)
     fills();
     fills_of_two();
     fills_in_four();
+    layouts_of_two();
+    layouts_in_line();
+    layouts_in_two();
+    layouts_in_four();
+    layouts_of_many();
     printf("%d comparisons, %d differ\n", compared, differ);
     return differ ? 1 : 0;
 }

@@ -72,7 +72,9 @@ module _ (block : List ℤ) where
         }
 
     -- the excess in parts
-    excess-is : (r b : List ℤ) → excess block m r b ≡ (up (numberAt block b m) + dn (numberAt block r m)) - (up (numberAt block r m) + dn (numberAt block b m))
+    excess-is :
+        (r b : List ℤ)
+        → excess block m r b ≡ (up (numberAt block b m) + dn (numberAt block r m)) - (up (numberAt block r m) + dn (numberAt block b m))
     unfolding excess
     excess-is r b = nat-diff (numberAt block b m) (numberAt block r m)
 
@@ -80,7 +82,8 @@ module _ (block : List ℤ) where
     unfolding numberAt
     least-below =
         let o = on-rest .0 in
-        number-least block rest i c (places-open block (o .head .some-axes) rest (o .table) best (x .placed) i c (position-number block rest m (x .below)))
+        let there = position-number block rest m (x .below) in
+        number-least block rest i c (places-open block (o .head .some-axes) rest (o .table) best (x .placed) i c there)
 
     pub excess-by : {r : ℕ} → numberAt block rest m +ℤ pos r ≡ numberAt block best m → r ≡ excess block m rest best
     excess-by {r} e = let q = excess-is rest best in omega (ints, sum (numberAt block rest m) (pos r))

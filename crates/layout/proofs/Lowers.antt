@@ -167,7 +167,10 @@ module _ (block : List ℤ) where
               (λ l. let e = x .agree p w (r .at) l in let s = r .less in absurd (omega ints))
               (λ l.
               ⊎-elim
-              (λ e. let s : number block p i c <ℤ number block best i c = subst (λ (j : ℕ). numberAt block p j <ℤ numberAt block best j) (sym e) (r .less) in omega ints)
+              (λ e.
+              let s : number block p i c <ℤ number block best i c =
+              subst (λ (j : ℕ). numberAt block p j <ℤ numberAt block best j) (sym e) (r .less) in
+              omega ints)
               (λ ne. let e = r .same m (lt-of-le-ne l ne) in omega ints)
               (same-or m (r .at)))
               (below-or (r .at) m)

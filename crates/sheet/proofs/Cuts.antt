@@ -79,7 +79,10 @@ module _ (block : List ℤ) (t : List ℤ) (whole : Rows block t) (i : ℕ) (fro
             → isOpen block (replaced t (rowAt block i) (set ∷ [])) j c z ≡ isOpen block t j c z
         own j zero e n = absurd (n refl)
         own j (suc d) e n =
-            subst (λ (x : ℕ). isOpen block (replaced t (rowAt block i) (set ∷ [])) x (suc d) z ≡ isOpen block t x (suc d) z) (sym e) (shapes-range d z)
+            subst
+            (λ (x : ℕ). isOpen block (replaced t (rowAt block i) (set ∷ [])) x (suc d) z ≡ isOpen block t x (suc d) z)
+            (sym e)
+            (shapes-range d z)
 
   -- ---- its range in dimension d replaced
   module _ (d : ℕ) (below : d < axes block) (a b : ℤ) where

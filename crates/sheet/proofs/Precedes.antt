@@ -1,6 +1,6 @@
--- The order of placements (document 02, T-06): each number of a row has its position (`position-number`, `number-position`), a placement that precedes one that
--- precedes a third precedes that too (`precedes-trans`), and of two placements inside a table one precedes the other or they are the same
--- (`places-order`). Assumes nothing.
+-- The order of placements (document 02, T-06): each number of a row has its position (`position-number`, `number-position`), a placement
+-- that precedes one that precedes a third precedes that too (`precedes-trans`), and of two placements inside a table one precedes the other
+-- or they are the same (`places-order`). Assumes nothing.
 use mathlib.Core.Path.{_≡_, sym, ap, ap₂, _∙_}
 use mathlib.Core.Logic.{_⊎_, inl, inr, ⊎-elim}
 use mathlib.Core.Bool.{Bool, false, not}

@@ -99,8 +99,8 @@ module _ (block : List ℤ) (t : List ℤ) (accepted : refusal block t ≡ 0) wh
 
     pub upto-falls : extent block (uptoValue block t i c z) < extent block t
     upto-falls =
-        cut-falls block some-axes t table i c (x .has) (minus far) z (number block t i c) (least-open i c (x .has) z) (least-in i c (x .has) z (x .from))
-        (x .next) (x .opens) (fails (λ e. let w = within-true e in let p = x .past in omega ints))
+        cut-falls block some-axes t table i c (x .has) (minus far) z (number block t i c) (least-open i c (x .has) z)
+        (least-in i c (x .has) z (x .from)) (x .next) (x .opens) (fails (λ e. let w = within-true e in let p = x .past in omega ints))
 
     next-in : within (z +ℤ pos 1) (pos far) (x .next) ≡ true
     next-in =

@@ -63,7 +63,9 @@ module _ (block : List ℤ) (t : List ℤ) where
         by (suc k) q = omega arith
 
   -- a row whose columns are all passed
-  pub gains-row : (m : ℕ) {c : ℕ} {g : Gain} → Table block t → 1 ≤ m → m ≤ rows block t → axes block < c → Gains block t m c g → Gains block t (m + 1) 0 g
+  pub gains-row :
+      (m : ℕ) {c : ℕ} {g : Gain}
+      → Table block t → 1 ≤ m → m ≤ rows block t → axes block < c → Gains block t m c g → Gains block t (m + 1) 0 g
   gains-row m table from upto past x =
       record {
         rows-none = λ q i h l.

@@ -6,10 +6,10 @@ use super::numbers::difference;
 use super::numbers::place;
 use super::numbers::plus;
 use super::numbers::sum;
-use super::words;
-use super::words::RECORD;
-use super::words::with_word;
-use super::words::word;
+use super::reading;
+use super::reading::RECORD;
+use super::reading::with_word;
+use super::reading::word;
 
 // The finding where there is no place, no layout, or something is not allowed or not good.
 pub const NONE: i64 = -1;
@@ -17,13 +17,13 @@ pub const NONE: i64 = -1;
 // ---- what is allowed
 
 pub(crate) fn in_ranges(block: &[i64], table: &[i64], i: usize, p: [i64; 4]) -> bool {
-    let k = words::dims(block);
+    let k = reading::dims(block);
     let mut d = 0;
     while d < k
         && numbers::is_within(
             coordinate(p, d),
-            words::low(block, table, i, d),
-            words::high(block, table, i, d),
+            reading::low(block, table, i, d),
+            reading::high(block, table, i, d),
         )
     {
         d = d + 1;
@@ -33,25 +33,27 @@ pub(crate) fn in_ranges(block: &[i64], table: &[i64], i: usize, p: [i64; 4]) -> 
 
 // Whether box b, of a row at coordinate x of dimension d, lies in the room.
 fn inside_in(block: &[i64], r: usize, b: usize, d: usize, x: i64) -> bool {
-    let start = sum(x, words::offset(block, b, d));
-    let end = sum(start, words::size(block, b, d));
-    words::room_low(block, r, d) <= start && end <= words::room_high(block, r, d)
+    let start = sum(x, reading::offset(block, b, d));
+    let end = sum(start, reading::size(block, b, d));
+    reading::room_low(block, r, d) <= start && end <= reading::room_high(block, r, d)
 }
 
 // Whether box b lies in the room in every dimension that the rule names.
 fn box_inside(block: &[i64], r: usize, b: usize, p: [i64; 4]) -> bool {
-    let k = words::dims(block);
+    let k = reading::dims(block);
     let mut d = 0;
-    while d < k && (!words::names_dim(block, r, d) || inside_in(block, r, b, d, coordinate(p, d))) {
+    while d < k
+        && (!reading::names_dim(block, r, d) || inside_in(block, r, b, d, coordinate(p, d)))
+    {
         d = d + 1;
     }
     d == k
 }
 
 pub(crate) fn shape_inside(block: &[i64], r: usize, s: usize, p: [i64; 4]) -> bool {
-    let n = words::boxes(block);
+    let n = reading::boxes(block);
     let mut b = 0;
-    while b < n && (words::is_other(block, b, s) || box_inside(block, r, b, p)) {
+    while b < n && (reading::is_other(block, b, s) || box_inside(block, r, b, p)) {
         b = b + 1;
     }
     b == n
@@ -68,13 +70,13 @@ fn forbidden_in(
     d: usize,
     x: i64,
 ) -> bool {
-    let t = words::offset(block, b, d);
-    let l = words::size(block, b, d);
-    let t2 = words::offset(block, c, d);
-    let l2 = words::size(block, c, d);
-    let g = words::clearance(block, r, d);
-    let most = sum(words::high(block, table, j, d), t2);
-    let least = sum(words::low(block, table, j, d), t2);
+    let t = reading::offset(block, b, d);
+    let l = reading::size(block, b, d);
+    let t2 = reading::offset(block, c, d);
+    let l2 = reading::size(block, c, d);
+    let g = reading::clearance(block, r, d);
+    let most = sum(reading::high(block, table, j, d), t2);
+    let least = sum(reading::low(block, table, j, d), t2);
     let first = sum(difference(difference(most, t), l), 1);
     let last = difference(difference(sum(least, l2), t), 1);
     difference(first, g) <= x && x <= sum(last, g)
@@ -90,10 +92,10 @@ fn pair_allows(
     c: usize,
     p: [i64; 4],
 ) -> bool {
-    let k = words::dims(block);
+    let k = reading::dims(block);
     let mut d = 0;
     while d < k
-        && (!words::names_dim(block, r, d)
+        && (!reading::names_dim(block, r, d)
             || forbidden_in(block, table, r, b, j, c, d, coordinate(p, d)))
     {
         d = d + 1;
@@ -111,9 +113,9 @@ fn shape_allows(
     s2: usize,
     p: [i64; 4],
 ) -> bool {
-    let n = words::boxes(block);
+    let n = reading::boxes(block);
     let mut c = 0;
-    while c < n && (words::is_other(block, c, s2) || pair_allows(block, table, r, b, j, c, p)) {
+    while c < n && (reading::is_other(block, c, s2) || pair_allows(block, table, r, b, j, c, p)) {
         c = c + 1;
     }
     c == n
@@ -129,9 +131,9 @@ fn shapes_allow(
     s2: usize,
     p: [i64; 4],
 ) -> bool {
-    let n = words::boxes(block);
+    let n = reading::boxes(block);
     let mut b = 0;
-    while b < n && (words::is_other(block, b, s) || shape_allows(block, table, r, b, j, s2, p)) {
+    while b < n && (reading::is_other(block, b, s) || shape_allows(block, table, r, b, j, s2, p)) {
         b = b + 1;
     }
     b == n
@@ -156,7 +158,7 @@ pub(crate) fn has_one_shape(set: i64) -> bool {
 fn row_allows(block: &[i64], table: &[i64], r: usize, s: usize, j: usize, p: [i64; 4]) -> bool {
     let mut s2 = 0;
     while s2 < 32
-        && (!words::has_shape(block, table, j, s2) || !shapes_allow(block, table, r, s, j, s2, p))
+        && (!reading::has_shape(block, table, j, s2) || !shapes_allow(block, table, r, s, j, s2, p))
     {
         s2 = s2 + 1;
     }
@@ -165,10 +167,10 @@ fn row_allows(block: &[i64], table: &[i64], r: usize, s: usize, j: usize, p: [i6
 
 // Whether every other row that the rule names allows the point.
 fn rows_allow(block: &[i64], table: &[i64], r: usize, i: usize, s: usize, p: [i64; 4]) -> bool {
-    let n = words::rows(block, table);
+    let n = reading::rows(block, table);
     let mut j = 0;
     while j < n
-        && (j == i || !words::names_row(block, r, j) || row_allows(block, table, r, s, j, p))
+        && (j == i || !reading::names_row(block, r, j) || row_allows(block, table, r, s, j, p))
     {
         j = j + 1;
     }
@@ -176,17 +178,17 @@ fn rows_allow(block: &[i64], table: &[i64], r: usize, i: usize, s: usize, p: [i6
 }
 
 fn rule_allows(block: &[i64], table: &[i64], r: usize, i: usize, s: usize, p: [i64; 4]) -> bool {
-    if !words::names_row(block, r, i) {
+    if !reading::names_row(block, r, i) {
         return true;
     }
-    if words::kind(block, r) == 2 {
+    if reading::kind(block, r) == 2 {
         return shape_inside(block, r, s, p);
     }
     rows_allow(block, table, r, i, s, p)
 }
 
 fn rules_allow(block: &[i64], table: &[i64], i: usize, s: usize, p: [i64; 4]) -> bool {
-    let n = words::rules(block);
+    let n = reading::rules(block);
     let mut r = 0;
     while r < n && rule_allows(block, table, r, i, s, p) {
         r = r + 1;
@@ -205,15 +207,15 @@ pub const MOST_POINTS: usize = 3000;
 
 fn width(block: &[i64], table: &[i64], i: usize, d: usize, more: i64) -> usize {
     let span = difference(
-        words::high(block, table, i, d),
-        words::low(block, table, i, d),
+        reading::high(block, table, i, d),
+        reading::low(block, table, i, d),
     );
     let n = numbers::count_of(sum(sum(span, 1), sum(more, more)));
     numbers::at_most(n, plus(MOST_POINTS, 1))
 }
 
 pub(crate) fn points(block: &[i64], table: &[i64], i: usize, more: i64) -> usize {
-    let k = words::dims(block);
+    let k = reading::dims(block);
     let mut n = 1;
     for d in 0..k {
         n = place(0, n, width(block, table, i, d, more));
@@ -224,14 +226,14 @@ pub(crate) fn points(block: &[i64], table: &[i64], i: usize, more: i64) -> usize
 
 // Point m of those of the row's ranges. A coordinate from position k on is any word.
 pub(crate) fn point(block: &[i64], table: &[i64], i: usize, m: usize, more: i64) -> [i64; 4] {
-    let k = words::dims(block);
+    let k = reading::dims(block);
     let mut p = [77i64; 4];
     let mut rest = m;
     for d in 0..4 {
         if d < k {
             let w = width(block, table, i, d, more);
             let step = numbers::word_of(numbers::remainder(rest, w));
-            p[d] = sum(difference(words::low(block, table, i, d), more), step);
+            p[d] = sum(difference(reading::low(block, table, i, d), more), step);
             rest = numbers::quotient(rest, w);
         }
     }
@@ -240,7 +242,7 @@ pub(crate) fn point(block: &[i64], table: &[i64], i: usize, m: usize, more: i64)
 
 // Whether some row has more points than are tried.
 pub(crate) fn has_many_points(block: &[i64], table: &[i64]) -> bool {
-    let n = words::rows(block, table);
+    let n = reading::rows(block, table);
     let mut i = 0;
     while i < n && points(block, table, i, 1) <= MOST_POINTS {
         i = i + 1;
@@ -302,7 +304,7 @@ pub(crate) fn shape_reach(
 fn row_reach(block: &[i64], table: &[i64], i: usize) -> [i64; RECORD] {
     let mut r = NOWHERE;
     for s in 0..32 {
-        if words::has_shape(block, table, i, s) {
+        if reading::has_shape(block, table, i, s) {
             let wider = shape_reach(block, table, i, s, r);
             r = wider;
         }
@@ -318,15 +320,15 @@ pub(crate) fn narrow_row(block: &[i64], table: &mut [i64], i: usize) -> i64 {
     if word(r, 0) == 0 {
         return NONE;
     }
-    let k = words::dims(block);
-    let moved = words::put_record(table, words::row_place(k, i), words::row_len(k), r);
+    let k = reading::dims(block);
+    let moved = reading::put_record(table, reading::row_place(k, i), reading::row_len(k), r);
     if moved { MOVED } else { 0 }
 }
 
 // ---- settling
 
 fn pass(block: &[i64], table: &mut [i64]) -> i64 {
-    let n = words::rows(block, table);
+    let n = reading::rows(block, table);
     let mut moved = 0;
     for i in 0..n {
         let x = narrow_row(block, table, i);

@@ -3,7 +3,7 @@
 use super::brute;
 use super::brute::last_shape;
 use super::numbers::sum;
-use super::words;
+use super::reading;
 
 // Whether in dimension d box b of row i starts at or past the end of box c of row j plus the rule's clearance.
 fn is_past(
@@ -16,10 +16,16 @@ fn is_past(
     c: usize,
     d: usize,
 ) -> bool {
-    let start = sum(words::low(block, table, i, d), words::offset(block, b, d));
-    let other = sum(words::low(block, table, j, d), words::offset(block, c, d));
-    let end = sum(other, words::size(block, c, d));
-    start >= sum(end, words::clearance(block, r, d))
+    let start = sum(
+        reading::low(block, table, i, d),
+        reading::offset(block, b, d),
+    );
+    let other = sum(
+        reading::low(block, table, j, d),
+        reading::offset(block, c, d),
+    );
+    let end = sum(other, reading::size(block, c, d));
+    start >= sum(end, reading::clearance(block, r, d))
 }
 
 // Whether dimension d is named and parts the two boxes.
@@ -33,7 +39,7 @@ fn parts(
     c: usize,
     d: usize,
 ) -> bool {
-    words::names_dim(block, r, d)
+    reading::names_dim(block, r, d)
         && (is_past(block, table, r, i, b, j, c, d) || is_past(block, table, r, j, c, i, b, d))
 }
 
@@ -47,7 +53,7 @@ fn boxes_apart(
     j: usize,
     c: usize,
 ) -> bool {
-    let k = words::dims(block);
+    let k = reading::dims(block);
     let mut d = 0;
     while d < k && !parts(block, table, r, i, b, j, c, d) {
         d = d + 1;
@@ -56,20 +62,20 @@ fn boxes_apart(
 }
 
 fn box_apart(block: &[i64], table: &[i64], r: usize, i: usize, b: usize, j: usize) -> bool {
-    let s = last_shape(words::shape_set(block, table, j));
-    let n = words::boxes(block);
+    let s = last_shape(reading::shape_set(block, table, j));
+    let n = reading::boxes(block);
     let mut c = 0;
-    while c < n && (words::is_other(block, c, s) || boxes_apart(block, table, r, i, b, j, c)) {
+    while c < n && (reading::is_other(block, c, s) || boxes_apart(block, table, r, i, b, j, c)) {
         c = c + 1;
     }
     c == n
 }
 
 fn rows_apart(block: &[i64], table: &[i64], r: usize, i: usize, j: usize) -> bool {
-    let s = last_shape(words::shape_set(block, table, i));
-    let n = words::boxes(block);
+    let s = last_shape(reading::shape_set(block, table, i));
+    let n = reading::boxes(block);
     let mut b = 0;
-    while b < n && (words::is_other(block, b, s) || box_apart(block, table, r, i, b, j)) {
+    while b < n && (reading::is_other(block, b, s) || box_apart(block, table, r, i, b, j)) {
         b = b + 1;
     }
     b == n
@@ -78,25 +84,25 @@ fn rows_apart(block: &[i64], table: &[i64], r: usize, i: usize, j: usize) -> boo
 // Whether row i overlaps no row before it.
 fn row_apart(block: &[i64], table: &[i64], r: usize, i: usize) -> bool {
     let mut j = 0;
-    while j < i && (!words::names_row(block, r, j) || rows_apart(block, table, r, i, j)) {
+    while j < i && (!reading::names_row(block, r, j) || rows_apart(block, table, r, i, j)) {
         j = j + 1;
     }
     j == i
 }
 
 fn row_meets(block: &[i64], table: &[i64], r: usize, i: usize) -> bool {
-    if !words::names_row(block, r, i) {
+    if !reading::names_row(block, r, i) {
         return true;
     }
-    if words::kind(block, r) == 1 {
+    if reading::kind(block, r) == 1 {
         return row_apart(block, table, r, i);
     }
-    let s = last_shape(words::shape_set(block, table, i));
+    let s = last_shape(reading::shape_set(block, table, i));
     brute::shape_inside(block, r, s, brute::point(block, table, i, 0, 0))
 }
 
 fn rule_holds(block: &[i64], table: &[i64], r: usize) -> bool {
-    let n = words::rows(block, table);
+    let n = reading::rows(block, table);
     let mut i = 0;
     while i < n && row_meets(block, table, r, i) {
         i = i + 1;
@@ -105,7 +111,7 @@ fn rule_holds(block: &[i64], table: &[i64], r: usize) -> bool {
 }
 
 pub(crate) fn is_good(block: &[i64], table: &[i64]) -> bool {
-    let n = words::rules(block);
+    let n = reading::rules(block);
     let mut r = 0;
     while r < n && rule_holds(block, table, r) {
         r = r + 1;

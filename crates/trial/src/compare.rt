@@ -14,14 +14,14 @@ use super::numbers::below;
 use super::numbers::from;
 use super::numbers::place;
 use super::plan;
+use super::reading;
+use super::reading::RECORD;
+use super::reading::number;
+use super::reading::word;
 use super::refusals;
 use super::refusals::index;
 use super::relations;
 use super::tally::Tally;
-use super::words;
-use super::words::RECORD;
-use super::words::number;
-use super::words::word;
 use sheet::Bound;
 use sheet::Narrowing;
 use sheet::PointTest;
@@ -110,7 +110,7 @@ pub(crate) fn ends(
 fn shape_ends(t: Tally, block: &[i64], table: &[i64], i: usize, s: usize) -> Tally {
     let r = brute::shape_reach(block, table, i, s, NOWHERE);
     let finding = found(word(r, 0) != 0);
-    let k = words::dims(block);
+    let k = reading::dims(block);
     let mut u = t;
     for d in 0..k {
         u = ends(
@@ -131,7 +131,7 @@ fn shape_ends(t: Tally, block: &[i64], table: &[i64], i: usize, s: usize) -> Tal
 fn shapes(t: Tally, block: &[i64], table: &[i64], i: usize) -> Tally {
     let mut u = t;
     for s in 0..32 {
-        if words::has_shape(block, table, i, s) {
+        if reading::has_shape(block, table, i, s) {
             u = shape_ends(u, block, table, i, s);
             u = points(u, block, table, i, s);
         }
@@ -217,12 +217,12 @@ pub(crate) fn judged_good(t: Tally, block: &[i64], table: &[i64]) -> Tally {
 
 // The words of a row as brute force reads them; none where there is a refusal.
 fn handing(t: Tally, block: &[i64], table: &[i64], row: i64) -> Tally {
-    let k = words::dims(block);
+    let k = reading::dims(block);
     let g = refusals::row_refusal(block, table, row);
-    let n = if g > 0 { 0 } else { words::row_len(k) };
+    let n = if g > 0 { 0 } else { reading::row_len(k) };
     let u = t.compared(accept::row_refusal(block, table, row) == g);
     let part = accept::row_slice(block, table, row);
-    let first = words::row_place(k, index(row));
+    let first = reading::row_place(k, index(row));
     u.compared(numbers::is_run(part, table, first, n))
 }
 
@@ -268,7 +268,7 @@ fn requested_ends(t: Tally, block: &[i64], table: &[i64], row: i64, shape: i64, 
 
 // One of each kind of request. The number that was drawn for the shape is also that of the other row, and that for the dimension of the rule.
 fn request(t: Tally, seed: &mut usize, block: &[i64], table: &[i64]) -> Tally {
-    let n = numbers::plus(words::rows(block, table), 4);
+    let n = numbers::plus(reading::rows(block, table), 4);
     let row = some_number(seed, &ODD_ROWS, 12, n);
     let shape = some_number(seed, &ODD_SHAPES, 10, 5);
     let p = some_point(seed);
@@ -295,7 +295,7 @@ fn requests(t: Tally, seed: &mut usize, block: &[i64], table: &[i64]) -> Tally {
 fn placed(t: Tally, seed: &mut usize, block: &[i64], table: &[i64]) -> Tally {
     let mut room = [0i64; TABLE];
     let fixed = numbers::copied(&mut room, table);
-    generate::fix(seed, fixed, words::row_len(words::dims(block)));
+    generate::fix(seed, fixed, reading::row_len(reading::dims(block)));
     let u = relations::pairs(judging(t, block, fixed), block, fixed);
     let v = fills::rules(u, block, fixed);
     change(v, block, fixed, true, 0, false)
@@ -313,7 +313,7 @@ fn placements(t: Tally, seed: &mut usize, block: &[i64], table: &[i64]) -> Tally
 pub(crate) fn room(t: Tally, seed: &mut usize, block: &[i64], table: &[i64]) -> Tally {
     let mut words = [0i64; TABLE];
     let fixed = numbers::copied(&mut words, table);
-    generate::fix(seed, fixed, words::row_len(words::dims(block)));
+    generate::fix(seed, fixed, reading::row_len(reading::dims(block)));
     let u = t.with_sheet(false, false);
     fills::rules(judging(u, block, fixed), block, fixed)
 }
@@ -321,7 +321,7 @@ pub(crate) fn room(t: Tally, seed: &mut usize, block: &[i64], table: &[i64]) -> 
 // ---- a sheet
 
 fn rows(t: Tally, block: &[i64], table: &[i64]) -> Tally {
-    let n = words::rows(block, table);
+    let n = reading::rows(block, table);
     let mut u = t;
     for i in 0..n {
         u = change(u, block, table, false, number(i), false);

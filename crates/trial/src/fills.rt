@@ -9,42 +9,42 @@ use super::numbers::place;
 use super::numbers::plus;
 use super::numbers::sum;
 use super::numbers::word_of;
+use super::reading;
 use super::refusals;
 use super::refusals::index;
 use super::tally::Tally;
-use super::words;
 use sheet::Share;
 
 // ---- the boxes of all rows, one after the other: those of row 0, of row 1, and so on; each row has every box here
 
 fn row_of(block: &[i64], q: usize) -> usize {
-    numbers::quotient(q, words::boxes(block))
+    numbers::quotient(q, reading::boxes(block))
 }
 
 fn box_of(block: &[i64], q: usize) -> usize {
-    numbers::remainder(q, words::boxes(block))
+    numbers::remainder(q, reading::boxes(block))
 }
 
 fn start(block: &[i64], table: &[i64], q: usize, d: usize) -> i64 {
-    let x = words::low(block, table, row_of(block, q), d);
-    sum(x, words::offset(block, box_of(block, q), d))
+    let x = reading::low(block, table, row_of(block, q), d);
+    sum(x, reading::offset(block, box_of(block, q), d))
 }
 
 fn size(block: &[i64], q: usize, d: usize) -> i64 {
-    words::size(block, box_of(block, q), d)
+    reading::size(block, box_of(block, q), d)
 }
 
 // Whether box q is one of its row's shape, and the rule names the row.
 fn counts(block: &[i64], table: &[i64], r: usize, q: usize) -> bool {
     let i = row_of(block, q);
-    let s = brute::last_shape(words::shape_set(block, table, i));
-    words::names_row(block, r, i) && !words::is_other(block, box_of(block, q), s)
+    let s = brute::last_shape(reading::shape_set(block, table, i));
+    reading::names_row(block, r, i) && !reading::is_other(block, box_of(block, q), s)
 }
 
 // ---- the cells of a box
 
 fn cells_in(block: &[i64], q: usize) -> usize {
-    let k = words::dims(block);
+    let k = reading::dims(block);
     let mut n = 1;
     for d in 0..k {
         n = place(0, n, count_of(size(block, q, d)));
@@ -54,7 +54,7 @@ fn cells_in(block: &[i64], q: usize) -> usize {
 
 // The low corner of cell m.
 fn cell(block: &[i64], table: &[i64], q: usize, m: usize) -> [i64; 4] {
-    let k = words::dims(block);
+    let k = reading::dims(block);
     let mut x = [0i64; 4];
     let mut rest = m;
     for d in 0..4 {
@@ -71,7 +71,7 @@ fn cell(block: &[i64], table: &[i64], q: usize, m: usize) -> [i64; 4] {
 }
 
 fn has_cell(block: &[i64], table: &[i64], q: usize, x: [i64; 4]) -> bool {
-    let k = words::dims(block);
+    let k = reading::dims(block);
     let mut d = 0;
     while d < k
         && numbers::is_within(
@@ -114,7 +114,7 @@ struct Cells {
 }
 
 fn covered(block: &[i64], table: &[i64], r: usize) -> Cells {
-    let n = place(0, words::rows(block, table), words::boxes(block));
+    let n = place(0, reading::rows(block, table), reading::boxes(block));
     let mut x = Cells {
         once: 0,
         together: 0,
@@ -173,7 +173,7 @@ pub(crate) fn rule(t: Tally, block: &[i64], table: &[i64], number: i64) -> Tally
 
 // Every rule, and the numbers -1, 0 and one past the last.
 pub(crate) fn rules(t: Tally, block: &[i64], table: &[i64]) -> Tally {
-    let n = plus(words::rules(block), 3);
+    let n = plus(reading::rules(block), 3);
     let mut u = t;
     for m in 0..n {
         u = rule(u, block, table, difference(word_of(m), 1));

@@ -11,10 +11,10 @@ use super::numbers::sum;
 use super::plan;
 use super::plan::Pairs;
 use super::plan::Plan;
-use super::words;
-use super::words::RECORD;
-use super::words::put_record;
-use super::words::with_word;
+use super::reading;
+use super::reading::RECORD;
+use super::reading::put_record;
+use super::reading::with_word;
 
 // A sheet is drawn into one run of words: its block from word 0 on, its table from word BLOCK on. These are the most words of both.
 pub const BLOCK: usize = 1507;
@@ -97,7 +97,7 @@ fn box_shape(seed: &mut usize, shapes: usize, b: usize) -> i64 {
         return 1;
     }
     if b < shapes {
-        return words::number(b);
+        return reading::number(b);
     }
     from(seed, 1, shapes)
 }
@@ -143,13 +143,28 @@ fn fill_rule(seed: &mut usize, p: Plan) -> [i64; RECORD] {
     with_pairs(seed, record(2, dims, rows), s, p.k, dims)
 }
 
+// A rule of every row in every dimension: the first keeps them apart, and another is of a room.
+fn rule_of_all(seed: &mut usize, p: Plan, r: usize) -> [i64; RECORD] {
+    let clearances = p.clearances;
+    let rooms = p.rooms;
+    let dims = numbers::word_of(all(p.k));
+    let rows = numbers::word_of(all(p.rows));
+    if r == 0 {
+        return with_pairs(seed, record(1, dims, rows), clearances, p.k, dims);
+    }
+    with_pairs(seed, record(2, dims, rows), rooms, p.k, dims)
+}
+
 // Rule r of a plan. A position's rules have a room and name dimension 0 and row 1; the last rule of a room's sheet can be filled.
 fn rule_record(seed: &mut usize, p: Plan, r: usize) -> [i64; RECORD] {
     let s = p.rooms;
     if p.kind == plan::ROOM && plus(r, 1) == p.rules {
         return fill_rule(seed, p);
     }
-    if p.kind == plan::SMALL || p.kind == plan::ROOM || p.kind == plan::CROWD {
+    if p.kind == plan::CROWD || p.kind == plan::TIGHT {
+        return rule_of_all(seed, p, r);
+    }
+    if p.kind == plan::SMALL || p.kind == plan::ROOM {
         return some_rule(seed, p);
     }
     if p.kind == plan::POSITION {
@@ -213,9 +228,9 @@ fn drawn(seed: &mut usize, p: Plan, what: usize, m: usize) -> [i64; RECORD] {
 // Where record m of a kind stands.
 fn place_of(p: Plan, what: usize, m: usize) -> usize {
     match what {
-        BOX => words::box_place(p.k, m),
-        RULE => words::rule_place(p.k, p.boxes, m),
-        _ => plus(BLOCK, words::row_place(p.k, m)),
+        BOX => reading::box_place(p.k, m),
+        RULE => reading::rule_place(p.k, p.boxes, m),
+        _ => plus(BLOCK, reading::row_place(p.k, m)),
     }
 }
 
@@ -244,8 +259,8 @@ pub(crate) fn sheet(seed: &mut usize, words: &mut [i64], kind: usize, m: usize) 
     let p = plan::of(seed, kind, m);
     draw(seed, words, p);
     let z = Lengths {
-        block: words::rule_place(p.k, p.boxes, p.rules),
-        table: words::row_place(p.k, p.rows),
+        block: reading::rule_place(p.k, p.boxes, p.rules),
+        table: reading::row_place(p.k, p.rows),
     };
     if kind == plan::SMALL && one_of(seed, 4) {
         return spoiled_again(seed, words, z);

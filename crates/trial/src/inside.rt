@@ -8,10 +8,10 @@ use super::numbers;
 use super::numbers::coordinate;
 use super::numbers::place;
 use super::numbers::plus;
+use super::reading;
+use super::reading::RECORD;
+use super::reading::with_word;
 use super::tally::Tally;
-use super::words;
-use super::words::RECORD;
-use super::words::with_word;
 use sheet::Settling;
 
 // A sheet with more placements than these is not tiny.
@@ -44,13 +44,13 @@ fn shape_at(set: i64, m: usize) -> usize {
 
 // In how many ways row i can be placed: with each of its shapes at each of its points.
 fn ways(block: &[i64], table: &[i64], i: usize) -> usize {
-    let shapes = shape_count(words::shape_set(block, table, i));
+    let shapes = shape_count(reading::shape_set(block, table, i));
     place(0, shapes, brute::points(block, table, i, 0))
 }
 
 // How many placements there are; one too many where the sheet is not tiny.
 pub(crate) fn count(block: &[i64], table: &[i64]) -> usize {
-    let n = words::rows(block, table);
+    let n = reading::rows(block, table);
     let mut all = 1;
     for i in 0..n {
         all = numbers::at_most(place(0, all, ways(block, table, i)), plus(MOST, 1));
@@ -71,19 +71,19 @@ fn fixed_row(s: usize, p: [i64; 4]) -> [i64; RECORD] {
 
 // Puts row i as it is placed in way m.
 fn put_row(block: &[i64], table: &[i64], placed: &mut [i64], i: usize, m: usize) {
-    let k = words::dims(block);
+    let k = reading::dims(block);
     let n = brute::points(block, table, i, 0);
-    let s = shape_at(words::shape_set(block, table, i), numbers::quotient(m, n));
+    let s = shape_at(reading::shape_set(block, table, i), numbers::quotient(m, n));
     let r = fixed_row(
         s,
         brute::point(block, table, i, numbers::remainder(m, n), 0),
     );
-    words::put_record(placed, words::row_place(k, i), words::row_len(k), r);
+    reading::put_record(placed, reading::row_place(k, i), reading::row_len(k), r);
 }
 
 // Puts placement m.
 pub(crate) fn put_placement(block: &[i64], table: &[i64], placed: &mut [i64], m: usize) {
-    let n = words::rows(block, table);
+    let n = reading::rows(block, table);
     let mut rest = m;
     for i in 0..n {
         let w = ways(block, table, i);
@@ -95,13 +95,13 @@ pub(crate) fn put_placement(block: &[i64], table: &[i64], placed: &mut [i64], m:
 // ---- inside a table
 
 fn row_inside(block: &[i64], placed: &[i64], table: &[i64], i: usize) -> bool {
-    let s = last_shape(words::shape_set(block, placed, i));
-    words::has_shape(block, table, i, s)
+    let s = last_shape(reading::shape_set(block, placed, i));
+    reading::has_shape(block, table, i, s)
         && brute::in_ranges(block, table, i, brute::point(block, placed, i, 0, 0))
 }
 
 fn is_inside(block: &[i64], placed: &[i64], table: &[i64]) -> bool {
-    let n = words::rows(block, table);
+    let n = reading::rows(block, table);
     let mut i = 0;
     while i < n && row_inside(block, placed, table, i) {
         i = i + 1;

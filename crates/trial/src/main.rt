@@ -1,6 +1,6 @@
 // Holds the kernel against brute force: the rotations, document 01's positions that are not marked, then some thousands of small sheets by
-// chance, some dozens of larger ones and some thousands of rooms and of crowds. It prints how many were run, how many answers were compared, and how many
-// differ.
+// chance, some hundreds of larger ones, some thousands of rooms, crowds and tight rooms, and five squares in two rooms. It prints how many
+// were run, how many answers were compared, and how many differ.
 mod brute; // brute.rt: what is allowed, by definition; every point tried
 mod catalogue; // catalogue.rt: good placements
 mod compare; // compare.rt: kernel and brute force
@@ -10,9 +10,9 @@ mod findings; // findings.rt: what brute force finds
 mod firsts; // firsts.rt: the first whole layout
 mod generate; // generate.rt: sheets by chance
 mod inside; // inside.rt: good placements and what settling leaves
-mod words; // words.rt: the words of a sheet
 mod numbers; // numbers.rt: sums and places
 mod plan; // plan.rt: what the sheets are made of
+mod reading; // reading.rt: the words of a sheet
 mod refusals; // refusals.rt: the grounds
 mod relations; // relations.rt: how two rows stand to each other
 mod rotations; // rotations.rt: the order of a sweep's dimensions
@@ -24,7 +24,7 @@ use generate::WORDS;
 use libc::STDOUT_FILENO;
 use tally::Tally;
 
-// How many small and how many larger sheets are tried, and how many rooms and crowds.
+// How many small and how many larger sheets are tried, and how many rooms, crowds and tight rooms.
 const SHEETS: usize = 10000;
 
 const LARGER: usize = 300;
@@ -32,6 +32,8 @@ const LARGER: usize = 300;
 const ROOMS: usize = 8000;
 
 const CROWDS: usize = 4000;
+
+const TIGHT: usize = 4000;
 
 // Sheet m of a kind.
 fn sheet(t: Tally, seed: &mut usize, kind: usize, m: usize) -> Tally {
@@ -45,7 +47,7 @@ fn sheet(t: Tally, seed: &mut usize, kind: usize, m: usize) -> Tally {
     if kind == plan::ROOM {
         return compare::room(t, seed, block, table);
     }
-    if kind == plan::CROWD {
+    if kind == plan::CROWD || kind == plan::TIGHT {
         return firsts::sheet(t.with_sheet(false, false), block, table);
     }
     compare::sheet(t, seed, block, table, kind)
@@ -100,6 +102,13 @@ fn print_firsts(t: Tally) {
     print(b", none ", t.unplaced);
 }
 
+fn print_layouts(text: &[u8], t: Tally) {
+    print(text, t.run);
+    io::write_all(STDOUT_FILENO, b", ");
+    print_firsts(t);
+    print_compared(b"\ncomparisons: ", t);
+}
+
 fn print_compared(text: &[u8], t: Tally) {
     print(text, t.compared);
     print(b", differences: ", t.differ);
@@ -128,10 +137,10 @@ fn main() {
     print_placements(b", placements: good ", r);
     print_fills(r);
     print_compared(b"\ncomparisons: ", r);
-    let c = sheets(plan::CROWD, CROWDS, 123456789123456789);
-    print(b"crowds: ", c.run);
-    io::write_all(STDOUT_FILENO, b", ");
-    print_firsts(c);
-    print_compared(b"\ncomparisons: ", c);
+    print_layouts(b"crowds: ", sheets(plan::CROWD, CROWDS, 123456789123456789));
+    print_layouts(
+        b"tight rooms: ",
+        sheets(plan::TIGHT, TIGHT, 987654321987654321),
+    );
     print_compared(b"five squares, comparisons: ", squares::both());
 }

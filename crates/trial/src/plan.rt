@@ -1,4 +1,5 @@
-// What the sheets are made of: small ones by chance, larger ones by chance, rooms to be filled, crowds, and the positions.
+// What the sheets are made of: small ones by chance, larger ones by chance, rooms to be filled, crowds and tight rooms to be laid out, and
+// the positions.
 use super::edges;
 use super::numbers;
 use super::numbers::below;
@@ -15,6 +16,8 @@ pub const POSITION: usize = 2;
 pub const ROOM: usize = 3;
 
 pub const CROWD: usize = 4;
+
+pub const TIGHT: usize = 5;
 
 // How k pairs of words of a record are drawn. Pair d starts at word `at` + `step` * d, and its second word stands `gap` words after the
 // first. The first is one of `n` words from `first` on, the second one of `more` words from `then` on; of a range it is so much past the
@@ -194,7 +197,8 @@ fn room(seed: &mut usize) -> Plan {
 
 // ---- crowds
 
-// A crowd: five to nine rows, of one or two shapes, in one or two dimensions. A range has one or two numbers, so that many crowds are tiny.
+// A crowd: five to nine rows, none of which may overlap, of one or two shapes in one or two dimensions. A range has one or two numbers, so
+// that most crowds are tiny.
 fn crowd(seed: &mut usize) -> Plan {
     let k = plus(1, below(seed, 2));
     let shapes = plus(1, below(seed, 2));
@@ -202,13 +206,40 @@ fn crowd(seed: &mut usize) -> Plan {
         kind: CROWD,
         k,
         boxes: plus(shapes, below(seed, 2)),
-        rules: plus(1, below(seed, 2)),
+        rules: 1,
         rows: plus(5, below(seed, 5)),
         shapes,
         extents: extents(k, 0, 2, 1, 2),
         ranges: ranges(1, 0, 16, 0, 2),
         rooms: ranges(3, 0, 1, 16, 4),
         clearances: clearances(2),
+    }
+}
+
+// A tight room: three or four rows, none of which may overlap, and little to spare, so that the least coordinates that settling leaves are
+// often in no layout.
+fn tight(seed: &mut usize) -> Plan {
+    let k = plus(1, below(seed, 2));
+    let is_line = k == 1;
+    Plan {
+        kind: TIGHT,
+        k,
+        boxes: 3,
+        rules: 2,
+        rows: plus(3, below(seed, 2)),
+        shapes: 3,
+        extents: extents(k, 0, 1, 1, 3),
+        ranges: if is_line {
+            ranges(1, 0, 2, 2, 4)
+        } else {
+            ranges(1, 0, 2, 0, 3)
+        },
+        rooms: if is_line {
+            ranges(3, 0, 1, 5, 4)
+        } else {
+            ranges(3, 0, 1, 3, 3)
+        },
+        clearances: clearances(1),
     }
 }
 
@@ -221,6 +252,7 @@ pub(crate) fn of(seed: &mut usize, kind: usize, m: usize) -> Plan {
         LARGER => larger(seed, m),
         ROOM => room(seed),
         CROWD => crowd(seed),
+        TIGHT => tight(seed),
         _ => edges::plan(m),
     }
 }

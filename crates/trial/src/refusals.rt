@@ -3,7 +3,7 @@
 use super::brute;
 use super::catalogue;
 use super::numbers;
-use super::words;
+use super::reading;
 
 // ---- refusals 2 to 8: what holds where they are not raised
 
@@ -12,21 +12,21 @@ fn range_holds(low: i64, high: i64) -> bool {
 }
 
 fn extent_holds(block: &[i64], b: usize, d: usize) -> bool {
-    numbers::is_within(words::offset(block, b, d), -10000, 10000)
-        && numbers::is_within(words::size(block, b, d), 1, 10000)
+    numbers::is_within(reading::offset(block, b, d), -10000, 10000)
+        && numbers::is_within(reading::size(block, b, d), 1, 10000)
 }
 
 fn box_holds(block: &[i64], b: usize) -> bool {
-    let k = words::dims(block);
+    let k = reading::dims(block);
     let mut d = 0;
     while d < k && extent_holds(block, b, d) {
         d = d + 1;
     }
-    d == k && numbers::is_within(words::shape(block, b), 1, 32)
+    d == k && numbers::is_within(reading::shape(block, b), 1, 32)
 }
 
 fn boxes_hold(block: &[i64]) -> bool {
-    let n = words::boxes(block);
+    let n = reading::boxes(block);
     let mut b = 0;
     while b < n && box_holds(block, b) {
         b = b + 1;
@@ -36,19 +36,19 @@ fn boxes_hold(block: &[i64]) -> bool {
 
 // Whether a rule's two words of a dimension are the ends of a room, or a clearance and 0; where the dimension is not named both are 0.
 fn room_holds(block: &[i64], r: usize, d: usize) -> bool {
-    let low = words::room_low(block, r, d);
-    let high = words::room_high(block, r, d);
-    if !words::names_dim(block, r, d) {
+    let low = reading::room_low(block, r, d);
+    let high = reading::room_high(block, r, d);
+    if !reading::names_dim(block, r, d) {
         return low == 0 && high == 0;
     }
-    if words::kind(block, r) == 2 {
+    if reading::kind(block, r) == 2 {
         return range_holds(low, high);
     }
-    numbers::is_within(words::clearance(block, r, d), 0, 1000) && high == 0
+    numbers::is_within(reading::clearance(block, r, d), 0, 1000) && high == 0
 }
 
 fn rooms_hold(block: &[i64], r: usize) -> bool {
-    let k = words::dims(block);
+    let k = reading::dims(block);
     let mut d = 0;
     while d < k && room_holds(block, r, d) {
         d = d + 1;
@@ -62,14 +62,14 @@ fn is_set(set: i64, n: usize) -> bool {
 }
 
 fn rule_holds(block: &[i64], n: usize, r: usize) -> bool {
-    numbers::is_within(words::kind(block, r), 1, 2)
-        && is_set(words::dim_set(block, r), words::dims(block))
-        && is_set(words::row_set(block, r), n)
+    numbers::is_within(reading::kind(block, r), 1, 2)
+        && is_set(reading::dim_set(block, r), reading::dims(block))
+        && is_set(reading::row_set(block, r), n)
         && rooms_hold(block, r)
 }
 
 fn rules_hold(block: &[i64], n: usize) -> bool {
-    let m = words::rules(block);
+    let m = reading::rules(block);
     let mut r = 0;
     while r < m && rule_holds(block, n, r) {
         r = r + 1;
@@ -78,9 +78,9 @@ fn rules_hold(block: &[i64], n: usize) -> bool {
 }
 
 fn has_box(block: &[i64], s: usize) -> bool {
-    let n = words::boxes(block);
+    let n = reading::boxes(block);
     let mut b = 0;
-    while b < n && words::is_other(block, b, s) {
+    while b < n && reading::is_other(block, b, s) {
         b = b + 1;
     }
     b < n
@@ -96,12 +96,12 @@ fn shapes_hold(block: &[i64], set: i64) -> bool {
 }
 
 fn ranges_hold(block: &[i64], table: &[i64], i: usize) -> bool {
-    let k = words::dims(block);
+    let k = reading::dims(block);
     let mut d = 0;
     while d < k
         && range_holds(
-            words::low(block, table, i, d),
-            words::high(block, table, i, d),
+            reading::low(block, table, i, d),
+            reading::high(block, table, i, d),
         )
     {
         d = d + 1;
@@ -110,7 +110,7 @@ fn ranges_hold(block: &[i64], table: &[i64], i: usize) -> bool {
 }
 
 fn row_holds(block: &[i64], table: &[i64], i: usize) -> bool {
-    shapes_hold(block, words::shape_set(block, table, i)) && ranges_hold(block, table, i)
+    shapes_hold(block, reading::shape_set(block, table, i)) && ranges_hold(block, table, i)
 }
 
 fn rows_hold(block: &[i64], table: &[i64], n: usize) -> bool {
@@ -131,7 +131,11 @@ fn head_refusal(block: &[i64]) -> i64 {
         return 3;
     }
     if block.len()
-        != words::rule_place(words::dims(block), words::boxes(block), words::rules(block))
+        != reading::rule_place(
+            reading::dims(block),
+            reading::boxes(block),
+            reading::rules(block),
+        )
     {
         return 4;
     }
@@ -143,7 +147,7 @@ pub(crate) fn refusal(block: &[i64], table: &[i64]) -> i64 {
     if g > 0 {
         return g;
     }
-    let n = words::rows(block, table);
+    let n = reading::rows(block, table);
     if n == 0 {
         return 5;
     }
@@ -166,7 +170,7 @@ pub(crate) fn row_refusal(block: &[i64], table: &[i64], row: i64) -> i64 {
     if g > 0 {
         return g;
     }
-    let n = numbers::word_of(words::rows(block, table));
+    let n = numbers::word_of(reading::rows(block, table));
     if numbers::is_within(row, 1, n) { 0 } else { 9 }
 }
 
@@ -181,7 +185,7 @@ pub(crate) fn shape_refusal(block: &[i64], table: &[i64], row: i64, shape: i64) 
         return g;
     }
     if numbers::is_within(shape, 1, 32)
-        && words::has_shape(block, table, index(row), index(shape))
+        && reading::has_shape(block, table, index(row), index(shape))
     {
         return 0;
     }
@@ -202,12 +206,12 @@ pub(crate) fn dim_refusal(block: &[i64], table: &[i64], row: i64, shape: i64, di
 
 // Whether a row has one shape and one point.
 fn row_is_fixed(block: &[i64], table: &[i64], i: usize) -> bool {
-    brute::has_one_shape(words::shape_set(block, table, i))
+    brute::has_one_shape(reading::shape_set(block, table, i))
         && brute::points(block, table, i, 0) == 1
 }
 
 fn is_fixed(block: &[i64], table: &[i64]) -> bool {
-    let n = words::rows(block, table);
+    let n = reading::rows(block, table);
     let mut i = 0;
     while i < n && row_is_fixed(block, table, i) {
         i = i + 1;
@@ -229,7 +233,11 @@ pub(crate) fn layout_refusal(block: &[i64], table: &[i64]) -> i64 {
     if g > 0 {
         return g;
     }
-    if words::rows(block, table) > 8 { 16 } else { 0 }
+    if reading::rows(block, table) > 8 {
+        16
+    } else {
+        0
+    }
 }
 
 // Of two rows and a dimension.
@@ -258,21 +266,24 @@ pub(crate) fn relation_refusal(
 // Whether a number is that of a rule of kind 2 that names every dimension.
 fn is_fill_rule(block: &[i64], rule: i64) -> bool {
     let r = index(rule);
-    let every = numbers::difference(numbers::set_of(words::dims(block)), 1);
-    numbers::is_within(rule, 1, numbers::word_of(words::rules(block)))
-        && words::kind(block, r) == 2
-        && words::dim_set(block, r) == every
+    let every = numbers::difference(numbers::set_of(reading::dims(block)), 1);
+    numbers::is_within(rule, 1, numbers::word_of(reading::rules(block)))
+        && reading::kind(block, r) == 2
+        && reading::dim_set(block, r) == every
 }
 
 // A room may have this many cells; one that has more counts as one more.
 const MOST_CELLS: usize = 4096;
 
 pub(crate) fn room_cells(block: &[i64], r: usize) -> usize {
-    let k = words::dims(block);
+    let k = reading::dims(block);
     let most = numbers::plus(MOST_CELLS, 1);
     let mut n = 1;
     for d in 0..k {
-        let span = numbers::difference(words::room_high(block, r, d), words::room_low(block, r, d));
+        let span = numbers::difference(
+            reading::room_high(block, r, d),
+            reading::room_low(block, r, d),
+        );
         n = numbers::place(0, n, numbers::at_most(numbers::count_of(span), most));
         n = numbers::at_most(n, most);
     }

@@ -8,10 +8,10 @@ use super::numbers::difference;
 use super::numbers::plus;
 use super::numbers::sum;
 use super::numbers::word_of;
+use super::reading;
 use super::refusals;
 use super::refusals::index;
 use super::tally::Tally;
-use super::words;
 use sheet::Allen;
 use sheet::Standing;
 
@@ -22,16 +22,19 @@ struct Interval {
 }
 
 fn interval_of(block: &[i64], table: &[i64], i: usize, d: usize) -> Interval {
-    let s = brute::last_shape(words::shape_set(block, table, i));
-    let n = words::boxes(block);
+    let s = brute::last_shape(reading::shape_set(block, table, i));
+    let n = reading::boxes(block);
     let mut x = Interval {
         origin: i64::MAX,
         end: i64::MIN,
     };
     for b in 0..n {
-        if !words::is_other(block, b, s) {
-            let start = sum(words::low(block, table, i, d), words::offset(block, b, d));
-            let end = sum(start, words::size(block, b, d));
+        if !reading::is_other(block, b, s) {
+            let start = sum(
+                reading::low(block, table, i, d),
+                reading::offset(block, b, d),
+            );
+            let end = sum(start, reading::size(block, b, d));
             x = Interval {
                 origin: numbers::lesser(x.origin, start),
                 end: numbers::greater(x.end, end),
@@ -106,7 +109,7 @@ pub(crate) fn pair(
 
 // Every dimension, and one past each side.
 fn dims(t: Tally, block: &[i64], table: &[i64], row: i64, other: i64) -> Tally {
-    let n = plus(words::dims(block), 2);
+    let n = plus(reading::dims(block), 2);
     let mut u = t;
     for d in 0..n {
         u = pair(u, block, table, row, other, difference(word_of(d), 1));
@@ -115,7 +118,7 @@ fn dims(t: Tally, block: &[i64], table: &[i64], row: i64, other: i64) -> Tally {
 }
 
 fn others(t: Tally, block: &[i64], table: &[i64], row: i64) -> Tally {
-    let n = plus(words::rows(block, table), 2);
+    let n = plus(reading::rows(block, table), 2);
     let mut u = t;
     for j in 0..n {
         u = dims(u, block, table, row, word_of(j));
@@ -125,7 +128,7 @@ fn others(t: Tally, block: &[i64], table: &[i64], row: i64) -> Tally {
 
 // Every two rows, and one past each side.
 pub(crate) fn pairs(t: Tally, block: &[i64], table: &[i64]) -> Tally {
-    let n = plus(words::rows(block, table), 2);
+    let n = plus(reading::rows(block, table), 2);
     let mut u = t;
     for i in 0..n {
         u = others(u, block, table, word_of(i));

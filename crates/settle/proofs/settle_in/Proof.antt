@@ -94,7 +94,8 @@ returns c = let g = c .before .before in answer-none (t (s (f g))) refl (found g
 array-share-prefix-work : tie.Need-array-share-prefix-work
 array-share-prefix-work c =
     let g = c .before .before .before in
-    omega (arith, short (s (f g)), whole (left g) (work (f g)) (length (t (s (f g)))) (left-long g) (omega (arith, short (s (f g)), all (f g))), all (f g))
+    let fits : length (t (s (f g))) ≤ length (work (f g)) = omega (arith, short (s (f g)), all (f g)) in
+    omega (arith, short (s (f g)), whole (left g) (work (f g)) (length (t (s (f g)))) (left-long g) fits, all (f g))
 
 slice-aggregate-copy-2 : tie.Need-slice-aggregate-copy-2
 slice-aggregate-copy-2 c = let g = c .before .before .before .before in sym (ap length (front-left g) ∙ left-long g)

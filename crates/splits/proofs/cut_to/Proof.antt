@@ -31,7 +31,8 @@ module _ (s : tie.Start) where
   cut i c a b = cutTo (now (s .args .block)) (now (s .args .table)) i c a b
 
   asked : (i c : ℕ) → i ≡ s .args .row → c ≡ s .args .column
-      → cut i c (toZ w64 (ofZ w64 (s .args .from))) (toZ w64 (ofZ w64 (s .args .to))) ≡ cut (s .args .row) (s .args .column) (s .args .from) (s .args .to)
+      → cut i c (toZ w64 (ofZ w64 (s .args .from))) (toZ w64 (ofZ w64 (s .args .to)))
+      ≡ cut (s .args .row) (s .args .column) (s .args .from) (s .args .to)
   asked i c p q = ap₂ (cut i c) (toZ-ofZ (s .fits .from)) (toZ-ofZ (s .fits .to)) ∙ ap₂ (λ (x y : ℕ). cut x y (s .args .from) (s .args .to)) p q
 
 same-length : tie.Need-same-length

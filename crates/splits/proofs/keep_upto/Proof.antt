@@ -22,7 +22,7 @@ returns c =
     let x = c .before .before in
     let a = x .before .before .args in
     c .before .cut-to .ensures
-    ∙ ap (λ (z : ℤ). uptoValue (now (a .block)) (now (a .table)) (a .s .row) (a .s .column) z) (bits-back {z = a .s .at} (x .struct-told .given .1 .1 .0 .1))
+    ∙ ap (uptoValue (now (a .block)) (now (a .table)) (a .s .row) (a .s .column)) (bits-back {z = a .s .at} (x .struct-told .given .1 .1 .0 .1))
 
 pub keep-upto-spec : {M : Type 1} → statement M
 keep-upto-spec = tie.close (tie.spec sub-cut-to cut-to-requires same-length returns)

@@ -57,9 +57,9 @@ returns-2 : tie.Need-returns-2
 returns-2 c =
     let s = c .before .before .before in
     let a = s .args in
+    let same-row = ap (λ (i : ℕ). low (now (a .block)) (now (a .table)) i (a .column - 1)) (c .before .before .row-place .ensures .1) in
     near s
-    (read-back (c .low-of .ensures ∙ ap (λ (i : ℕ). low (now (a .block)) (now (a .table)) i (a .column - 1)) (c .before .before .row-place .ensures .1))
-    (c .low-of .ok)
+    (read-back (c .low-of .ensures ∙ same-row) (c .low-of .ok)
     ∙ sym (coordinate (now (a .block)) (now (a .table)) (a .row) (a .column) (c .before .if1 .left)))
 
 pub number-spec : {M : Type 1} → statement M

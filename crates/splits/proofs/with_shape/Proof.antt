@@ -58,7 +58,8 @@ returns-2 c =
     let s = c .before .before .before .before in
     let a = s .args in
     let e : isBetween (a .set) (a .from) (a .to) (suc (a .s)) ≡ false =
-    ap (λ (b : Bool). holds (pos (a .set)) (suc (a .s)) && b) (sym (tested (c .before)) ∙ not-true (c .if2 .taken)) ∙ and-false (holds (pos (a .set)) (suc (a .s))) in
+    ap (λ (b : Bool). holds (pos (a .set)) (suc (a .s)) && b) (sym (tested (c .before)) ∙ not-true (c .if2 .taken))
+    ∙ and-false (holds (pos (a .set)) (suc (a .s))) in
     s .pre .1 ∙ sym (step-out (isBetween (a .set) (a .from) (a .to)) e)
 
 with-member-requires : tie.Need-with-member-requires

@@ -349,7 +349,9 @@ module _ (t : ℕ) where
   copy-requires : find-upto-lts.Need-copy-requires (upto-calls t) (find-upto-at t) find-upto.Post
   copy-requires c κs = let e = c .before .before in sym (ap length (left-front e) ∙ placed e .inside .as-long)
 
-  written : (c : find-upto-lts.After-table (upto-calls t) (find-upto-at t) find-upto.Post) → c .before .copy .last .0 ≡ outcome (sought (c .before .before .before .before))
+  written :
+      (c : find-upto-lts.After-table (upto-calls t) (find-upto-at t) find-upto.Post)
+      → c .before .copy .last .0 ≡ outcome (sought (c .before .before .before .before))
   written c = c .before .copy .ensures ∙ left-front (c .before .before .before .before)
 
   upto-same-length-2 : find-upto-lts.Need-same-length-2 (upto-calls t) (find-upto-at t) find-upto.Post
@@ -368,10 +370,10 @@ pub +find+find-upto-spec : {M : Type 1} → statement M
 +find+find-upto-spec =
     close μ-find μ-find-upto
     (λ t.
-    find-lts.spec (find-calls t) (find-at t) find.Post Inv-loop μ-loop (loop-holds t) (settled-requires t) (same-length t) (returns t) (pick-requires t)
-    (same-length-2 t) (returns-2 t) (find-upto-requires t) (same-length-3 t) (returns-3 t) (fail-requires t) (keep-past-requires t) (loop-less t)
-    (loop-again t))
+    find-lts.spec (find-calls t) (find-at t) find.Post Inv-loop μ-loop (loop-holds t) (settled-requires t) (same-length t) (returns t)
+    (pick-requires t) (same-length-2 t) (returns-2 t) (find-upto-requires t) (same-length-3 t) (returns-3 t) (fail-requires t) (keep-past-requires t)
+    (loop-less t) (loop-again t))
     λ t.
-    find-upto-lts.spec (upto-calls t) (find-upto-at t) find-upto.Post (array-borrow-prefix-part t) (slice-aggregate-copy-upto t) (copy-upto-requires t)
-    (array-borrow-prefix-part-2 t) (slice-aggregate-find t) (find-requires t) (upto-same-length t) (upto-returns t) (array-share-prefix-part t)
-    (slice-aggregate-copy t) (copy-requires t) (upto-same-length-2 t) (upto-returns-2 t)
+    find-upto-lts.spec (upto-calls t) (find-upto-at t) find-upto.Post (array-borrow-prefix-part t) (slice-aggregate-copy-upto t)
+    (copy-upto-requires t) (array-borrow-prefix-part-2 t) (slice-aggregate-find t) (find-requires t) (upto-same-length t) (upto-returns t)
+    (array-share-prefix-part t) (slice-aggregate-copy t) (copy-requires t) (upto-same-length-2 t) (upto-returns-2 t)

@@ -26,7 +26,10 @@ returns : tie.Need-returns
 returns c =
     let a = c .before .before .before in
     let s = a .before .before in
-    record { yes = λ _. found-settled (now (s .args .block)) (now (s .args .table)) (s .pre) (a .settle .ensures) (c .enum-told .given .1); no = λ e. clash refl e }
+    record {
+      yes = λ _. found-settled (now (s .args .block)) (now (s .args .table)) (s .pre) (a .settle .ensures) (c .enum-told .given .1);
+      no = λ e. clash refl e;
+    }
 
 same-length-2 : tie.Need-same-length-2
 same-length-2 c = search needs
@@ -35,7 +38,10 @@ returns-2 : tie.Need-returns-2
 returns-2 c =
     let a = c .before .before .before in
     let s = a .before .before in
-    record { yes = λ e. clash e refl; no = λ _. found-no-layout (now (s .args .block)) (now (s .args .table)) (s .pre) (a .settle .ensures) (c .enum-told2 .given .1) }
+    record {
+      yes = λ e. clash e refl;
+      no = λ _. found-no-layout (now (s .args .block)) (now (s .args .table)) (s .pre) (a .settle .ensures) (c .enum-told2 .given .1);
+    }
 
 same-length-3 : tie.Need-same-length-3
 same-length-3 c = search needs

@@ -55,7 +55,10 @@ gap-requires c κs = (
 returns : tie.Need-returns
 returns c =
     let d = c .before in
-    excess-by (block d) (s d .pre) (subst (λ (z : ℤ). z +ℤ pos (c .gap .result) ≡ numberAt (block d) (best d) (s d .args .m)) (low d) (c .gap .ensures .0 ∙ high d))
+    excess-by
+    (block d)
+    (s d .pre)
+    (subst (λ (z : ℤ). z +ℤ pos (c .gap .result) ≡ numberAt (block d) (best d) (s d .args .m)) (low d) (c .gap .ensures .0 ∙ high d))
 
 pub excess-spec : {M : Type 1} → statement M
 excess-spec = tie.close (tie.spec least-of-requires least-of-requires-2 gap-requires returns)

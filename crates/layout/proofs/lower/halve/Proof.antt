@@ -104,7 +104,10 @@ probe-requires c κs =
     let e = d a in
     let x = s e .pre in (
       x .small,
-      subst (λ (q : Split). SplitAt (block e) (rest e) (q .row) (q .column) (q .at)) (sym (same-split a)) (middle (block e) x (z a) (from a) (less a)),
+      subst
+          (λ (q : Split). SplitAt (block e) (rest e) (q .row) (q .column) (q .at))
+          (sym (same-split a))
+          (middle (block e) x (z a) (from a) (less a)),
       x .placed .inside .as-long,
     )
 

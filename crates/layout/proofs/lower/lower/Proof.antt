@@ -96,15 +96,17 @@ module _ (c : tie.After-least-of Inv-loop μ-loop) where
   is : LeastOf (block h) (h .loop .best) (m h) r
   is = c .least-of .ensures
 
-  fixed : Lowered (block h) (suc (m h)) (now (s h .args .rest)) (now (s h .args .best)) (uptoValue (block h) (h .loop .rest) (r .row) (r .column) (r .at))
-      (h .loop .best)
+  abbrev split : ℕ → ℕ → ℤ → List ℤ
+  split i k z = uptoValue (block h) (h .loop .rest) i k z
+
+  fixed : Lowered (block h) (suc (m h)) (now (s h .args .rest)) (now (s h .args .best)) (split (r .row) (r .column) (r .at)) (h .loop .best)
   unfolding numberAt
   fixed =
       let e = c .before .before .before in
+      let least = numberAt (block h) (h .loop .best) (m h) in
       let none-left : excess (block h) (m h) (h .loop .rest) (h .loop .best) ≤ 0 = omega (arith, e .before .excess .ensures, e .if1 .left) in
-      let split : ℕ → ℕ → ℤ → List ℤ = λ i k z. uptoValue (block h) (h .loop .rest) i k z in
       subst (λ (w : List ℤ). Lowered (block h) (suc (m h)) (now (s h .args .rest)) (now (s h .args .best)) w (h .loop .best))
-      (sym (ap (split (r .row) (r .column)) (is .least) ∙ ap₂ (λ (i k : ℕ). split i k (numberAt (block h) (h .loop .best) (m h))) (is .row) (is .column)))
+      (sym (ap (split (r .row) (r .column)) (is .least) ∙ ap₂ (λ (i k : ℕ). split i k least) (is .row) (is .column)))
       (lowered-next (block h) (h .loop .inv) (lowering h .below) (excess-none (block h) (lowering h) none-left))
 
 keep-upto-requires : tie.Need-keep-upto-requires Inv-loop μ-loop

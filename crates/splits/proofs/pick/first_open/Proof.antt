@@ -69,7 +69,8 @@ module _ (c : tie.After-open-column Inv-loop μ-loop) where
 number-requires : tie.Need-number-requires Inv-loop μ-loop
 number-requires c κs =
     let d = c .before in
-    let few : d .open-column .result ≤ axes (now (s d .args .block)) = omega (arith, c .if1 .taken, d .before .before .before .before .axes-of .ensures) in
+    let few : d .open-column .result ≤ axes (now (s d .args .block)) =
+    omega (arith, c .if1 .taken, d .before .before .before .before .axes-of .ensures) in
     record { head = s d .pre .0; table = s d .pre .1; has = has d few }
 
 returns : tie.Need-returns Inv-loop μ-loop

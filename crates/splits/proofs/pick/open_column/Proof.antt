@@ -34,7 +34,10 @@ returns c =
     }
 
 add-c : tie.Need-add-c Inv-loop μ-loop
-add-c c = let p = c .before in let l = p .before .before in omega (arith, p .before .loop-test .taken, l .before .axes-of .ensures, l .before .before .pre .row .head .few-axes)
+add-c c =
+    let p = c .before in
+    let l = p .before .before in
+    omega (arith, p .before .loop-test .taken, l .before .axes-of .ensures, l .before .before .pre .row .head .few-axes)
 
 loop-less : tie.Need-loop-less Inv-loop μ-loop
 loop-less c = omega (arith, c .before .before .loop-test .taken)
@@ -45,7 +48,8 @@ loop-again c =
     let l = p .before .before in
     let a = l .before .before .args in (
       omega (arith, p .before .loop-test .taken),
-      single-more (now (a .block)) (now (a .table)) (a .i .number) (l .loop .c) (l .loop .inv .1) (p .spread .ensures .none (omega (arith, c .if1 .left))),
+      single-more (now (a .block)) (now (a .table)) (a .i .number) (l .loop .c) (l .loop .inv .1)
+          (p .spread .ensures .none (omega (arith, c .if1 .left))),
     )
 
 returns-2 : tie.Need-returns-2 Inv-loop μ-loop

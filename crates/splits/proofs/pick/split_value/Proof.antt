@@ -40,13 +40,15 @@ module _ (c : tie.After-high-of) where
   abbrev top : ℤ
   top = high (now (s .args .block)) (now (s .args .table)) (s .args .row) (s .args .column - 1)
 
-  lo : toZ w64 (ofZ w64 (c .before .before .before .number .result)) ≡ number (now (s .args .block)) (now (s .args .table)) (s .args .row) (s .args .column)
+  lo : toZ w64 (ofZ w64 (c .before .before .before .number .result))
+      ≡ number (now (s .args .block)) (now (s .args .table)) (s .args .row) (s .args .column)
   lo = let n = c .before .before .before .number in read-back (n .ensures .0) (n .ok)
 
   hi : toZ w64 (ofZ w64 (c .high-of .result)) ≡ top
   hi =
       read-back
-      (c .high-of .ensures ∙ ap (λ (i : ℕ). high (now (s .args .block)) (now (s .args .table)) i (s .args .column - 1)) (c .before .row-place .ensures .1))
+      (c .high-of .ensures
+      ∙ ap (λ (i : ℕ). high (now (s .args .block)) (now (s .args .table)) i (s .args .column - 1)) (c .before .row-place .ensures .1))
       (c .high-of .ok)
 
 halfway-requires : tie.Need-halfway-requires

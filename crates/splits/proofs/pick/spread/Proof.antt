@@ -38,9 +38,10 @@ returns : tie.Need-returns
 returns c =
     let s = c .before .before .before in
     let e : s .args .column ≡ 0 = c .before .before .if1 .taken in
+    let one = sym (c .before .has-one-shape .ensures) ∙ c .if2 .taken in
     rw e record {
       few = omega arith;
-      none = λ _. only-single (block s e) (table s e) (s .pre .0 .table) (s .args .i .number) (has s e) (sym (c .before .has-one-shape .ensures) ∙ c .if2 .taken);
+      none = λ _. only-single (block s e) (table s e) (s .pre .0 .table) (s .args .i .number) (has s e) one;
       some = λ l. absurd (omega arith);
     }
 
@@ -48,10 +49,11 @@ returns-2 : tie.Need-returns-2
 returns-2 c =
     let s = c .before .before .before in
     let e : s .args .column ≡ 0 = c .before .before .if1 .taken in
+    let several = sym (c .before .has-one-shape .ensures) ∙ c .if2 .left in
     rw e record {
       few = omega arith;
       none = λ q. absurd (omega arith);
-      some = λ _. shapes-several (block s e) (table s e) (s .pre .0 .table) (s .args .i .number) (has s e) (sym (c .before .has-one-shape .ensures) ∙ c .if2 .left);
+      some = λ _. shapes-several (block s e) (table s e) (s .pre .0 .table) (s .args .i .number) (has s e) several;
     }
 
 sub-low-of : tie.Need-sub-low-of

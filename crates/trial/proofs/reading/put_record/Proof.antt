@@ -1,10 +1,10 @@
--- `trial::words::put_record` is safe and ends: w runs up to n. Assumes nothing.
+-- `trial::reading::put_record` is safe and ends: w runs up to n. Assumes nothing.
 use mathlib.Core.Path.{_≡_}
 use Prim.Native.Nat.{_≤_, _-_}
 use lib.ListN.{length}
 use borrow.Author.Needs.{needs}
-use Rattle.trial.proofs.words.put_record.Statement.{statement}
-use Rattle.trial.proofs.words.put_record.Tie as tie
+use Rattle.trial.proofs.reading.put_record.Statement.{statement}
+use Rattle.trial.proofs.reading.put_record.Tie as tie
 
 abbrev Inv-loop : tie.InvT-loop
 Inv-loop words₀ first n «record» other₀ w₀ words other w = (w ≤ n) × (length words ≡ length words₀)

@@ -1,8 +1,8 @@
--- `trial::words::rows` is safe and ends: n runs up to 33. Assumes nothing.
+-- `trial::reading::rows` is safe and ends: n runs up to 33. Assumes nothing.
 use Prim.Native.Nat.{_≤_, _-_}
 use borrow.Author.Needs.{needs}
-use Rattle.trial.proofs.words.rows.Statement.{statement}
-use Rattle.trial.proofs.words.rows.Tie as tie
+use Rattle.trial.proofs.reading.rows.Statement.{statement}
+use Rattle.trial.proofs.reading.rows.Tie as tie
 
 abbrev Inv-loop : tie.InvT-loop
 Inv-loop block table k n₀ n = n ≤ 33

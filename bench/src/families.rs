@@ -14,6 +14,7 @@ pub fn families() -> Vec<Family> {
     let mut families = ordinary();
     families.extend(filled());
     families.extend(equal());
+    families.extend(niches());
     families
 }
 
@@ -58,6 +59,16 @@ fn equal() -> Vec<Family> {
     ]
 }
 
+/// Rows of which three have to stand in a niche that is one too short, while the others have a hall to themselves.
+fn niches() -> Vec<Family> {
+    let hard = |name, sheet| Family { name, is_hard: true, sheets: vec![sheet] };
+    vec![
+        hard("k 2, a niche one short", niche(2, 1000, 20_000)),
+        hard("k 3, a niche one short", niche(3, 1000, 20_000)),
+        hard("k 1, a niche for small rows", niche(1, 2, 20_000)),
+    ]
+}
+
 type P = [i64; 4];
 
 /// A shape set, and the low and the high ends of the ranges.
@@ -93,6 +104,19 @@ fn own_shapes(sizes: &[P]) -> Vec<Row> {
 
 fn alike(k: usize, rows: usize, size: i64, room: &[i64]) -> Sheet {
     sheet(k, &[[size; 4]], 0, room, &vec![open(1); rows])
+}
+
+fn niche(k: usize, size: i64, hall: i64) -> Sheet {
+    let (every_dim, in_hall, in_niche) = ((1 << k) - 1, 0b1_1111, 0b1110_0000);
+    let mut builder = Builder::new(k);
+    builder.add_box(1, &[0; 4], &[size; 4]);
+    builder.add_apart(every_dim, in_hall | in_niche, &[0; 4]);
+    builder.add_inside(every_dim, in_hall, &[0; 4], &[hall; 4]);
+    builder.add_inside(every_dim, in_niche, &[0; 4], &[3 * size - 1, size, size, size]);
+    for _ in 0..8 {
+        builder.add_row(1, &[-FAR; 4], &[FAR; 4]);
+    }
+    builder.build()
 }
 
 fn eight_sizes(random: &mut Random) -> Vec<P> {

@@ -137,7 +137,7 @@ fn halfway(low: i64, high: i64) -> i64 {
 }
 
 /// A search over tables of so many words. `failures` counts for each row how often one of its numbers was parted and
-/// the lower part had no placement.
+/// settling found no layout in the part.
 struct Search<'a, S> {
     block: &'a [i64],
     words: usize,
@@ -186,7 +186,7 @@ impl<S: FnMut(&[i64], &mut [i64]) -> i64> Search<'_, S> {
             *table = fitted;
             return true;
         }
-        self.find(table)
+        self.find(table, None)
     }
 
     /// Takes one open number after the other to its least; false where this leads to no placement.
@@ -198,19 +198,23 @@ impl<S: FnMut(&[i64], &mut [i64]) -> i64> Search<'_, S> {
         false
     }
 
-    /// As `place`: the widest number is parted, and the upper part is looked at where the lower has no placement.
-    fn find(&mut self, table: &mut Table) -> bool {
+    /// As `place`: the widest number is parted, and the upper part is looked at where the lower has no placement. `parted`
+    /// is the row of which the table is a part.
+    fn find(&mut self, table: &mut Table, mut parted: Option<usize>) -> bool {
         while self.settles(table) {
             let Some(number) = self.widest(table) else { return true };
             let middle = number.middle(table);
             let mut left = *table;
             number.keep_upto(&mut left, middle);
-            if self.find(&mut left) {
+            if self.find(&mut left, Some(number.row)) {
                 *table = left;
                 return true;
             }
-            self.failures[number.row] = self.failures[number.row].saturating_add(1);
             number.keep_past(table, middle);
+            parted = Some(number.row);
+        }
+        if let Some(row) = parted {
+            self.failures[row] = self.failures[row].saturating_add(1);
         }
         false
     }

@@ -3,7 +3,6 @@
 ghost use mathlib.Core.Path.{_≡_};
 ghost use mathlib.Core.Bool.{true};
 ghost use Prim.Native.Nat.{_≤_};
-ghost use Rattle.integers.specs.Below.{UpTo};
 ghost use Rattle.sheet.specs.Layout.{layoutRowsMost};
 ghost use Rattle.sheet.specs.Refusal.{refusal};
 ghost use Rattle.sheet.specs.FirstLayout.{Places};
@@ -49,10 +48,13 @@ fn first_fit(block: &[i64], table: &mut [i64]) -> bool
 
 // ---- a whole search
 
-// A row at which the search has failed once more.
+// One more failure of a row. Row 0 stands for none.
 fn fail(failures: &mut [u32; LAYOUT_ROWS], row: usize)
-    requires { ⌜ UpTo layoutRowsMost row ⌝ }
+    requires { ⌜ row ≤ layoutRowsMost ⌝ }
 {
+    if row == 0 {
+        return;
+    }
     let failed = failures[row - 1];
     if failed < 4294967295 {
         failures[row - 1] = failed + 1;
@@ -67,20 +69,23 @@ fn find_upto(block: &[i64], table: &mut [i64], failures: &mut [u32; LAYOUT_ROWS]
     let n = table.len();
     let mut part = [0i64; LAYOUT_WORDS];
     splits::copy_upto(block, table, &mut part[..n], s);
-    if !find(block, &mut part[..n], failures) {
+    if !find(block, &mut part[..n], failures, s.row) {
         return false;
     }
     words::copy(table, &part[..n]);
     true
 }
 
-// Looks for a placement inside the table. Where there is none the words are those at that moment.
-fn find(block: &[i64], table: &mut [i64], failures: &mut [u32; LAYOUT_ROWS]) -> bool
-    requires { ⌜ Small (now block) (now table) ⌝ }
+// Looks for a placement inside the table, which is a part got by splitting a number of the row, or whole with row 0. Where there is none the
+// words are those at that moment. A failure is that of the row whose split left nothing that settles.
+fn find(block: &[i64], table: &mut [i64], failures: &mut [u32; LAYOUT_ROWS], row: usize) -> bool
+    requires { ⌜ Small (now block) (now table) × (row ≤ layoutRowsMost) ⌝ }
     ensures { λ r. ⌜ Found (now (block .entry)) (now (table .entry)) r (now (table .exit)) ⌝ }
 {
+    let mut split_row = row;
     loop {
         if !settled(block, table) {
+            fail(failures, split_row);
             return false;
         }
         let s = pick::pick(block, table, failures);
@@ -90,8 +95,8 @@ fn find(block: &[i64], table: &mut [i64], failures: &mut [u32; LAYOUT_ROWS]) -> 
         if find_upto(block, table, failures, s) {
             return true;
         }
-        fail(failures, s.row);
         splits::keep_past(block, table, s);
+        split_row = s.row;
     }
 }
 
@@ -108,5 +113,5 @@ pub(crate) fn place(block: &[i64], table: &mut [i64], failures: &mut [u32; LAYOU
         words::copy(table, &tried[..n]);
         return true;
     }
-    find(block, table, failures)
+    find(block, table, failures, 0)
 }

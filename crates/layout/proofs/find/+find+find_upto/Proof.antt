@@ -13,7 +13,7 @@ use lib.IntN.{ℤ, pos}
 use lib.ListN.{length, take, drop, replicate}
 use lib.Seq.{length-take-le}
 use Rattle.integers.proofs.Booleans.{clash, not-true, not-false}
-use Rattle.sheet.specs.Layout.{layoutTableMost}
+use Rattle.sheet.specs.Layout.{layoutTableMost, layoutRowsMost}
 use Rattle.sheet.specs.Settle.{extent, settleOf}
 use Rattle.sheet.specs.FirstLayout.{Places}
 use Rattle.sheet.proofs.Accepted.{accepted-head, accepted-table}
@@ -63,39 +63,45 @@ abbrev find-calls : ℕ → find-lts.Claims
 find-calls t = (
   settled-reads.Asked,
   settled-reads.Learnt,
+  fail-reads.Asked,
+  fail-reads.Learnt,
   pick-reads.Asked,
   pick-reads.Learnt,
   find-upto-below t,
   find-upto.Post,
-  fail-reads.Asked,
-  fail-reads.Learnt,
   keep-past-reads.Asked,
   keep-past-reads.Learnt,
 )
 
 abbrev Inv-loop : find-lts.InvT-loop
-Inv-loop block table₀ failures₀ table failures = Keeps block table₀ table
+Inv-loop block table₀ failures₀ row split-row₀ table failures split-row = Keeps block table₀ table × (split-row ≤ layoutRowsMost)
 
 abbrev μ-loop : find-lts.MeasureT-loop
-μ-loop block table₀ failures₀ table failures = extent block table
+μ-loop block table₀ failures₀ row split-row₀ table failures split-row = extent block table
 
 module _ (t : ℕ) where
   loop-holds : find-lts.Need-loop-holds (find-calls t) (find-at t) find.Post Inv-loop μ-loop
-  loop-holds c = keeps-start (now (c .args .block)) (now (c .args .table)) (c .pre .1 .accepted)
+  loop-holds c = (keeps-start (now (c .args .block)) (now (c .args .table)) (c .pre .1 .0 .accepted), c .pre .1 .1)
 
   settled-requires : find-lts.Need-settled-requires (find-calls t) (find-at t) find.Post Inv-loop μ-loop
-  settled-requires c κs = c .before .loop .inv .part .accepted
+  settled-requires c κs = c .before .loop .inv .0 .part .accepted
+
+  fail-requires : find-lts.Need-fail-requires (find-calls t) (find-at t) find.Post Inv-loop μ-loop
+  fail-requires c κs = c .before .before .before .before .before .loop .inv .1
 
   same-length : find-lts.Need-same-length (find-calls t) (find-at t) find.Post Inv-loop μ-loop
-  same-length c = c .before .table .given ∙ c .before .before .before .before .loop .inv .part .inside .as-long
+  same-length c =
+      let a = c .before .before .before in
+      a .table .given ∙ a .before .before .before .loop .inv .0 .part .inside .as-long
 
   returns : find-lts.Need-returns (find-calls t) (find-at t) find.Post Inv-loop μ-loop
   returns c =
-      let s = c .before .before in
+      let i = c .before .before in
+      let s = i .before .before in
       let l = s .before .before in
       record {
         yes = λ e. clash e refl;
-        no = λ _. none-settled (now (l .before .args .block)) (l .loop .inv) (s .settled .ensures .no (not-true (c .if1 .taken)));
+        no = λ _. none-settled (now (l .before .args .block)) (l .loop .inv .0) (s .settled .ensures .no (not-true (i .if1 .taken)));
       }
 
   -- the settled table
@@ -116,10 +122,10 @@ module _ (t : ℕ) where
     found = c .before .before .settled .ensures .yes (not-false (c .if1 .left))
 
     kept : Keeps block (now (l .before .args .table)) v
-    kept = keeps-settled block (l .loop .inv) found
+    kept = keeps-settled block (l .loop .inv .0) found
 
     small : Small block v
-    small = small-part block (l .before .pre .1) (kept .part)
+    small = small-part block (l .before .pre .1 .0) (kept .part)
 
   pick-requires : find-lts.Need-pick-requires (find-calls t) (find-at t) find.Post Inv-loop μ-loop
   pick-requires c κs =
@@ -135,7 +141,7 @@ module _ (t : ℕ) where
       let p = c .before .before in
       let d = p .before .before .before in
       record {
-        yes = λ _. fixed-settled (block d) (l d .loop .inv) (found d) (p .pick .ensures .none (c .if2 .taken));
+        yes = λ _. fixed-settled (block d) (l d .loop .inv .0) (found d) (p .pick .ensures .none (c .if2 .taken));
         no = λ e. clash refl e;
       }
 
@@ -152,7 +158,7 @@ module _ (t : ℕ) where
       let x = c .before .before in
       let e = d x in
       let s = l e .before in
-      let less = part-extent (s .pre .1 .accepted) (kept e .part) in
+      let less = part-extent (s .pre .1 .0 .accepted) (kept e .part) in
       (omega (arith, s .pre .0, less), (small e, split x))
 
   same-length-3 : find-lts.Need-same-length-3 (find-calls t) (find-at t) find.Post Inv-loop μ-loop
@@ -189,38 +195,37 @@ module _ (t : ℕ) where
     on : OnNumber (block e) (v e) (s .row) (s .column)
     on = let a = small e .accepted in record { head = accepted-head (block e) (v e) a; table = accepted-table (block e) (v e) a; has = split x .has }
 
-  fail-requires : find-lts.Need-fail-requires (find-calls t) (find-at t) find.Post Inv-loop μ-loop
-  fail-requires c κs =
-      let h = split (x (c .before)) .has in
-      record { from = h .from; upto = omega (arith, h .upto, small (e (c .before)) .few) }
+  few : (c : find-lts.Else3 (find-calls t) (find-at t) find.Post Inv-loop μ-loop) → s c .row ≤ layoutRowsMost
+  few c = omega (arith, split (x c) .has .upto, small (e c) .few)
 
   keep-past-requires : find-lts.Need-keep-past-requires (find-calls t) (find-at t) find.Post Inv-loop μ-loop
   keep-past-requires c κs =
-      let a = c .before .before .before in (
+      let a = c .before in (
         subst (λ (w : List ℤ). OnNumber (block (e a)) w (s a .row) (s a .column)) (sym (same a)) (on a),
         split-near (block (e a)) (v (e a)) (small (e a) .accepted) _ _ _ (split (x a)),
       )
 
   -- the values past it
-  past-left : (c : find-lts.After-table3 (find-calls t) (find-at t) find.Post Inv-loop μ-loop) → let a = c .before .before .before .before .before in
+  past-left : (c : find-lts.After-table3 (find-calls t) (find-at t) find.Post Inv-loop μ-loop) → let a = c .before .before .before in
       c .before .keep-past .last .1 .0 ≡ pastValue (block (e a)) (v (e a)) (s a .row) (s a .column) (s a .at)
   past-left c =
-      let a = c .before .before .before .before .before in
+      let a = c .before .before .before in
       c .before .keep-past .ensures ∙ ap (λ (w : List ℤ). pastValue (block (e a)) w (s a .row) (s a .column) (s a .at)) (same a)
 
   loop-less : find-lts.Need-loop-less (find-calls t) (find-at t) find.Post Inv-loop μ-loop
   loop-less c =
-      let a = c .before .before .before .before .before in
+      let a = c .before .before .before in
       let y = e a in
       let less = past-falls (block y) (v y) (small y .accepted) _ _ _ (split (x a)) in
-      let shrunk = settle-falls (block y) (u y) (l y .loop .inv .part .accepted) (v y) (found y) in
+      let shrunk = settle-falls (block y) (u y) (l y .loop .inv .0 .part .accepted) (v y) (found y) in
       subst (λ (w : List ℤ). extent (block y) w < extent (block y) (u y)) (sym (past-left c)) (omega (arith, less, shrunk))
 
   loop-again : find-lts.Need-loop-again (find-calls t) (find-at t) find.Post Inv-loop μ-loop
   loop-again c =
-      let a = c .before .before .before .before .before in
+      let a = c .before .before .before in
       let y = e a in
-      subst (Keeps (block y) (now (l y .before .args .table))) (sym (past-left c)) (keeps-past (block y) (kept y) _ _ _ (split (x a)) (none-upto a))
+      let past = keeps-past (block y) (kept y) _ _ _ (split (x a)) (none-upto a) in
+      (subst (Keeps (block y) (now (l y .before .args .table))) (sym (past-left c)) past, few a)
 
 -- ---- find_upto
 abbrev upto-calls : ℕ → find-upto-lts.Claims
@@ -294,7 +299,10 @@ module _ (t : ℕ) where
       let same = in-front a ∙ is-upto a in
       let q : 2 * extent (b a) (uptoValue (b a) (given a) (at a .row) (at a .column) (at a .at)) + 1 < t = omega (arith, less, s .pre .0) in (
         subst (λ (w : List ℤ). 2 * extent (b a) w + 1 < t) (sym same) q,
-        subst (Small (b a)) (sym (in-front a)) (small-part (b a) (s .pre .1 .0) (is-part a)),
+        (
+          subst (Small (b a)) (sym (in-front a)) (small-part (b a) (s .pre .1 .0) (is-part a)),
+          omega (arith, s .pre .1 .1 .has .upto, s .pre .1 .0 .few),
+        ),
       )
 
   -- what is found in the part
@@ -370,8 +378,8 @@ pub +find+find-upto-spec : {M : Type 1} → statement M
 +find+find-upto-spec =
     close μ-find μ-find-upto
     (λ t.
-    find-lts.spec (find-calls t) (find-at t) find.Post Inv-loop μ-loop (loop-holds t) (settled-requires t) (same-length t) (returns t)
-    (pick-requires t) (same-length-2 t) (returns-2 t) (find-upto-requires t) (same-length-3 t) (returns-3 t) (fail-requires t) (keep-past-requires t)
+    find-lts.spec (find-calls t) (find-at t) find.Post Inv-loop μ-loop (loop-holds t) (settled-requires t) (fail-requires t) (same-length t)
+    (returns t) (pick-requires t) (same-length-2 t) (returns-2 t) (find-upto-requires t) (same-length-3 t) (returns-3 t) (keep-past-requires t)
     (loop-less t) (loop-again t))
     λ t.
     find-upto-lts.spec (upto-calls t) (find-upto-at t) find-upto.Post (array-borrow-prefix-part t) (slice-aggregate-copy-upto t)

@@ -68,19 +68,28 @@
    Nothing else is asked: words and numbers may have any value.
 
    There is no global state, no memory is allocated and no pointer is kept, so calls on different tables
-   may run in different threads at once, also over one block. No function recurses. Nothing is proved
-   about the stack: where it was measured zk_settle, zk_narrow, zk_least and zk_greatest used 62 to 66 KB
-   of it (most of it a list of what can forbid a row, and an outline of the block), zk_check_placement and
-   zk_point_allowed 13 KB, zk_fill 17 KB, the others less than 1 KB; 128 KB leave room for changes.
+   may run in different threads at once, also over one block. Nothing is proved about the stack: where it
+   was measured zk_settle, zk_narrow, zk_least and zk_greatest used 62 to 66 KB of it (most of it a list
+   of what can forbid a row, and an outline of the block), zk_check_placement and zk_point_allowed 13 KB,
+   zk_fill 17 KB, the others but one less than 1 KB; 128 KB leave room for changes. The one is
+   zk_first_layout, the only function that recurses: each level of its search has a copy of the table and
+   takes 768 bytes, beside 73 KB. A level halves a range of a row or leaves it one shape, so that there are
+   at most 649, which is 571 KB; the deepest search that was measured used 419 KB. 1 MB leaves room for
+   changes.
 
    Time: every call ends, but there is no limit to it that helps in practice, and a call cannot be
    interrupted. Ordinary sheets settle in microseconds to milliseconds. Beside document 000's filtering in
    plain Rust, its forbidden regions listed, zk_settle takes 0.18 of the time (geometric mean over the
-   benchmark's lines with one copy of a rule), 0.91 on the worst line and 1.60 on the worst sheet;
+   benchmark's lines with one copy of a rule), 0.87 on the worst line and 1.92 on the worst sheet;
    docs/PERFORMANCE.md has more. A sheet that is made for it can make one search visit a number of
    points that grows as the fourth power of the number of boxes (k = 4), and rows can push each other one
-   unit at a time over the whole of their ranges. Where sheets come from outside, call from a thread or a
-   process that can be left. */
+   unit at a time over the whole of their ranges.
+   zk_first_layout settles again and again while it searches. Ordinary sheets of eight rows take 37
+   microseconds (the benchmark's median, 3.4 milliseconds on the worst), rows that fill a room to 0.75 or
+   more, or exactly, up to 55 milliseconds, eight rows in a line that is one unit too short 0.17 seconds.
+   The slowest sheet that was met took 1.5 seconds: k = 4, three rows 2 wide in a niche that is one too
+   short, and five that may stand anywhere. The search is exponential at worst.
+   Where sheets come from outside, call from a thread or a process that can be left. */
 #ifndef ZIVOKKAL_H
 #define ZIVOKKAL_H
 
@@ -132,8 +141,8 @@ struct zk_bound zk_greatest(const int64_t *block, size_t block_len, const int64_
 int64_t zk_narrow(const int64_t *block, size_t block_len, int64_t *table, size_t table_len, int64_t row);
 
 /* 0: settled: the rows are narrowed until nothing moves; the table is the same in whatever order that is
-   done. -1: no layout, some row has no place left. A settled table need not contain a layout; for a fixed
-   placement ask zk_check_placement. Refusals 2 to 8. */
+   done. -1: no layout, some row has no place left. A settled table need not contain a layout: ask
+   zk_first_layout for one, and zk_check_placement about a fixed placement. Refusals 2 to 8. */
 int64_t zk_settle(const int64_t *block, size_t block_len, int64_t *table, size_t table_len);
 
 /* The first whole layout. A good placement lies inside the table when each of its shapes is in the row's set

@@ -1,6 +1,6 @@
 -- Tables cut down at one place: a row's set or one range replaced, and a number of a row cut to the values from a to b. A row's numbers are
 -- its shape's and then a coordinate for each dimension; in a table that is not fixed several values may be open for one of them.
--- Documents 02's T-06 splits tables so, and T-08 tightens one range. The laws are in proofs/Cuts.antt. Assumes nothing.
+-- Document 02's T-06 splits tables so, and T-08 tightens one range. The laws are in proofs/Cuts.antt. Assumes nothing.
 use mathlib.Core.Path.{_≡_}
 use mathlib.Core.Bool.{Bool, true, _&&_}
 use mathlib.Core.List.{List, [], _∷_}

@@ -1,6 +1,6 @@
 -- Tables cut down at one place, by what is open in them: with a row's set or one of its ranges replaced (`shapes-here`, `range-low`,
--- `range-high`) every other number keeps its values (`shapes-other`, `range-other`); a number that is cut keeps those from a to b (`cut-in`,
--- `cut-out`). Assumes nothing.
+-- `range-high`) every other number keeps its values (`shapes-other`, `range-other`, and for a range its ends and its shapes, `range-ends`,
+-- `range-shapes`); a number that is cut keeps those from a to b (`cut-in`, `cut-out`). Assumes nothing.
 use mathlib.Core.Path.{_≡_, refl, sym, ap, ap₂, _∙_, subst}
 use mathlib.Core.Logic.{_⊎_, inl, inr, ⊎-elim}
 use mathlib.Core.Bool.{Bool, true, _&&_}
@@ -114,28 +114,48 @@ module _ (block : List ℤ) (t : List ℤ) (whole : Rows block t) (i : ℕ) (fro
         ap (word (replaced t (rowAt block i + 1 + 2 * d) (a ∷ b ∷ []))) q
         ∙ replaced-in t (rowAt block i + 1 + 2 * d) (a ∷ b ∷ []) ends-fit 1 (omega arith)
 
-    range-own : (c : ℕ) (z : ℤ) → (c ≡ suc d → ⊥) → isOpen block (withRange block t i d a b) i c z ≡ isOpen block t i c z
-    unfolding withRange isOpen hasShape shapeSet low high
-    range-own zero z ne =
-        ap (λ (s : ℤ). holds s (nat z)) (beside (rowAt block i + 1 + 2 * d) (a ∷ b ∷ []) range-first range-last (rowAt block i) (inl (omega arith)))
-    range-own (suc e) z ne =
-        let apart : (e < d) ⊎ (d < e) = ⊎-elim (λ l. inl l) (λ l. inr (lt-of-le-ne l (λ q. ne (ap suc (sym q))))) (below-or e d) in
-        ap₂ (λ (x y : ℤ). within x y z)
-        (beside (rowAt block i + 1 + 2 * d) (a ∷ b ∷ []) range-first range-last (rowAt block i + 1 + 2 * e)
-        (⊎-elim (λ l. inl (omega arith)) (λ l. inr (omega arith)) apart))
-        (beside (rowAt block i + 1 + 2 * d) (a ∷ b ∷ []) range-first range-last (rowAt block i + 2 + 2 * e)
-        (⊎-elim (λ l. inl (omega arith)) (λ l. inr (omega arith)) apart))
+    -- every other range keeps its ends
+    own-ends : (e : ℕ) → (e ≡ d → ⊥)
+        → (low block (withRange block t i d a b) i e ≡ low block t i e) × (high block (withRange block t i d a b) i e ≡ high block t i e)
+    unfolding withRange low high
+    own-ends e ne =
+        let apart : (e < d) ⊎ (d < e) = ⊎-elim (λ l. inl l) (λ l. inr (lt-of-le-ne l (λ q. ne (sym q)))) (below-or e d) in (
+          beside (rowAt block i + 1 + 2 * d) (a ∷ b ∷ []) range-first range-last (rowAt block i + 1 + 2 * e)
+              (⊎-elim (λ l. inl (omega arith)) (λ l. inr (omega arith)) apart),
+          beside (rowAt block i + 1 + 2 * d) (a ∷ b ∷ []) range-first range-last (rowAt block i + 2 + 2 * e)
+              (⊎-elim (λ l. inl (omega arith)) (λ l. inr (omega arith)) apart),
+        )
+
+    pub range-ends : (j e : ℕ) → 1 ≤ j → (j ≡ i → e ≡ d → ⊥) → e < axes block
+        → (low block (withRange block t i d a b) j e ≡ low block t j e) × (high block (withRange block t i d a b) j e ≡ high block t j e)
+    unfolding withRange
+    range-ends j e h ne l =
+        let u = replaced t (rowAt block i + 1 + 2 * d) (a ∷ b ∷ []) in
+        let rest = others (rowAt block i + 1 + 2 * d) (a ∷ b ∷ []) range-first range-last in
+        ⊎-elim
+        (λ q. subst (λ (x : ℕ). (low block u x e ≡ low block t x e) × (high block u x e ≡ high block t x e)) (sym q) (own-ends e (ne q)))
+        (λ n. (low-other block t u i from rest j e h n l, high-other block t u i from rest j e h n l))
+        (same-or j i)
+
+    -- every row keeps its shapes
+    pub range-shapes : (j s : ℕ) → 1 ≤ j → hasShape block (withRange block t i d a b) j s ≡ hasShape block t j s
+    unfolding withRange hasShape shapeSet
+    range-shapes j s h =
+        let u = replaced t (rowAt block i + 1 + 2 * d) (a ∷ b ∷ []) in
+        ⊎-elim
+        (λ q.
+        subst (λ (x : ℕ). holds (word u (rowAt block x)) s ≡ holds (word t (rowAt block x)) s) (sym q)
+        (ap (λ (w : ℤ). holds w s) (beside (rowAt block i + 1 + 2 * d) (a ∷ b ∷ []) range-first range-last (rowAt block i) (inl (omega arith)))))
+        (λ n. shape-other block t u i from (others (rowAt block i + 1 + 2 * d) (a ∷ b ∷ []) range-first range-last) j s h n)
+        (same-or j i)
 
     pub range-other : (j c : ℕ) (z : ℤ) → 1 ≤ j → (j ≡ i → c ≡ suc d → ⊥) → c ≤ axes block
         → isOpen block (withRange block t i d a b) j c z ≡ isOpen block t j c z
-    unfolding withRange
-    range-other j c z h ne l =
-        ⊎-elim
-        (λ e.
-        subst (λ (x : ℕ). isOpen block (replaced t (rowAt block i + 1 + 2 * d) (a ∷ b ∷ [])) x c z ≡ isOpen block t x c z) (sym e)
-        (range-own c z (ne e)))
-        (λ n. other-open (rowAt block i + 1 + 2 * d) (a ∷ b ∷ []) range-first range-last j c z h n l)
-        (same-or j i)
+    unfolding isOpen
+    range-other j zero z h ne l = range-shapes j (nat z) h
+    range-other j (suc e) z h ne l =
+        let r = range-ends j e h (λ p q. ne p (ap suc q)) l in
+        ap₂ (λ (x y : ℤ). within x y z) (r .0) (r .1)
 
 -- ---- number c of row i cut to the values from a to b
 -- two numbers of a table are one and the same, or not

@@ -17,6 +17,7 @@ pub mod Inside
 pub mod Steps
 pub mod Local
 pub mod Cuts
+pub mod Tightened
 pub mod Numbers
 pub mod Demand3
 pub mod GoodSettled

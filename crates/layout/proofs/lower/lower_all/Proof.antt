@@ -17,7 +17,7 @@ use Rattle.layout.proofs.lower.lower_all.Statement.{statement}
 use Rattle.layout.proofs.lower.lower_all.Tie as tie
 
 abbrev Inv-loop : tie.InvT-loop
-Inv-loop block rest₀ best₀ failures₀ count m₀ rest best failures m = (m ≤ count) × Lowered block m rest₀ best₀ rest best
+Inv-loop block rest₀ best₀ failures₀ count m₀ rest best failures m = Lowered block m rest₀ best₀ rest best × (m ≤ count)
 
 abbrev μ-loop : tie.MeasureT-loop
 μ-loop block rest₀ best₀ failures₀ count m₀ rest best failures m = count - m
@@ -61,14 +61,14 @@ mul-count c = omega (arith, few c)
 loop-holds : tie.Need-loop-holds Inv-loop μ-loop
 loop-holds c =
     let x = s c in
-    (omega arith, lowered-start (block c) (t c) (now (x .args .best)) (x .pre .0 .accepted) (x .pre .1))
+    (lowered-start (block c) (t c) (now (x .args .best)) (x .pre .0 .accepted) (x .pre .1), omega arith)
 
 lower-requires : tie.Need-lower-requires Inv-loop μ-loop
 lower-requires c κs =
     let p = c .before .before .before in
     let l = p .before in
     let a = l .before in
-    let x = l .loop .inv .1 in
+    let x = l .loop .inv .0 in
     record {
       small = small-part (block a) (s a .pre .0) (x .part);
       below = rw (numbers-same (block a) (l .loop .rest) (t a) (x .part .inside .as-long), sym (count a)) (p .loop-test .taken);
@@ -89,25 +89,25 @@ loop-again c =
     let w = c .before .before in
     let p = w .before .before .before .before in
     let l = p .before in (
+      rw (add-one (l .loop .m)) (lowered-then (block (l .before)) (l .loop .inv .0) (w .lower .ensures)),
       omega (arith, p .loop-test .taken),
-      rw (add-one (l .loop .m)) (lowered-then (block (l .before)) (l .loop .inv .1) (w .lower .ensures)),
     )
 
 same-length : tie.Need-same-length Inv-loop μ-loop
-same-length c = c .before .loop .inv .1 .part .inside .as-long
+same-length c = c .before .loop .inv .0 .part .inside .as-long
 
 same-length-2 : tie.Need-same-length-2 Inv-loop μ-loop
 same-length-2 c =
     let l = c .before in
-    let x = l .loop .inv .1 in
+    let x = l .loop .inv .0 in
     x .placed .inside .as-long ∙ x .part .inside .as-long ∙ sym (s (l .before) .pre .1 .inside .as-long)
 
 returns : tie.Need-returns Inv-loop μ-loop
 returns c =
     let l = c .before in
     let a = l .before in
-    let e : l .loop .m ≡ numbers (block a) (t a) = omega (arith, l .loop .inv .0, c .loop-test .left, count a) in
-    subst (λ (m : ℕ). Lowered (block a) m (t a) (now (s a .args .best)) (l .loop .rest) (l .loop .best)) e (l .loop .inv .1)
+    let e : l .loop .m ≡ numbers (block a) (t a) = omega (arith, l .loop .inv .1, c .loop-test .left, count a) in
+    subst (λ (m : ℕ). Lowered (block a) m (t a) (now (s a .args .best)) (l .loop .rest) (l .loop .best)) e (l .loop .inv .0)
 
 pub lower-all-spec : {M : Type 1} → statement M
 lower-all-spec =

@@ -87,7 +87,7 @@
    zk_first_layout settles again and again while it searches. Ordinary sheets of eight rows take 37
    microseconds (the benchmark's median, 3.4 milliseconds on the worst), rows that fill a room to 0.75 or
    more, or exactly, up to 55 milliseconds, eight rows in a line that is one unit too short 0.17 seconds.
-   The slowest sheet that was met took 1.5 seconds: k = 4, three rows 2 wide in a niche that is one too
+   The slowest sheet that was met took 1.4 seconds: k = 4, three rows 2 wide in a niche that is one too
    short, and five that may stand anywhere. The search is exponential at worst.
    Where sheets come from outside, call from a thread or a process that can be left. */
 #ifndef ZIVOKKAL_H

@@ -1,6 +1,8 @@
 // Document 01, "Grounds for turning a sheet away, in checking order": the first of the checks 2 to 12 that applies to a call, or 0,
 // on any words of any length; and the row slice. Each test of crates/sheet/specs/Refusal.antt is a function of its name, and the
 // tests run in their order: what one has passed the next leans on.
+#![tactic(auto)]
+
 ghost use Rattle.std.specs.Prelude.{◌≡◌, false, List, ◌+◌, ◌*◌, ℤ, pos, length};
 ghost use Rattle.sheet.specs.Refusal.{no_such_row, no_such_shape, no_such_dim};
 ghost use Rattle.sheet.specs.Refusal.{refusal, refusal_row, refusal_shape, refusal_dim, refusal_placement, row_slice, row_start};
@@ -128,7 +130,7 @@ pub fn placement_refusal(block: &[i64], table: &[i64]) -> i64
 // ---- the row slice
 
 // Where a row stands in its table: the first word, and how many; 0 and 0 when refused.
-#[derive(Drop)]
+#[derive(Clone, Copy)]
 pub struct Span {
     pub start: usize,
     pub length: usize,

@@ -1,6 +1,8 @@
 // The least and the greatest coordinate of the points at which a row is allowed with a shape (document 01): the sweep of the cut box, which
 // asks at each candidate for an area around it that is forbidden. What can forbid the row with the shape is listed before it. One search
 // serves both ends: the greatest is the least of the mirrored points.
+#![tactic(auto)]
+
 ghost use Rattle.std.specs.Prelude.{◌≡◌, ◌<◌};
 ghost use Rattle.integers.specs.Integer.{nat};
 ghost use Rattle.sheet.specs.Layout.{axes};
@@ -21,14 +23,14 @@ use sweep::Sweep;
 use words::Place;
 
 // A coordinate that was found, or none.
-#[derive(Drop)]
+#[derive(Clone, Copy)]
 pub enum Found {
     At(i64),
     Nothing,
 }
 
 // What a search came to: a free point, where one was found.
-#[derive(Drop)]
+#[derive(Clone, Copy)]
 pub struct Spot {
     pub found: bool,
     pub point: [i64; COORDINATES],

@@ -1,5 +1,7 @@
 // The C interface, include/zivokkal.h: the kernel's operations over lent words, each with its finding as a word: 0 for the good answer,
 // -1 for the other, and otherwise the refusal's number (specs/Findings.antt). A slice is a pointer and a length in C.
+#![tactic(auto)]
+
 ghost use Rattle.std.specs.Prelude.{◌≡◌, [], ◌∷◌, pos, length};
 ghost use Rattle.integers.specs.Integer.{nat};
 ghost use Rattle.sheet.specs.Allowed.{allowed};
@@ -23,7 +25,7 @@ use sheet::{Allen, Bound, Layout, Narrowing, PointTest, Settling, Share, Standin
 
 // struct zk_bound: the value is 0 unless a coordinate was found.
 #[repr(C)]
-#[derive(Drop)]
+#[derive(Clone, Copy)]
 pub struct BoundFinding {
     pub finding: i64,
     pub value: i64,
@@ -31,7 +33,7 @@ pub struct BoundFinding {
 
 // struct zk_span: the row's first word in its table, and how many; 0 and 0 when refused.
 #[repr(C)]
-#[derive(Drop)]
+#[derive(Clone, Copy)]
 pub struct RowSpan {
     pub start: i64,
     pub length: i64,
@@ -39,7 +41,7 @@ pub struct RowSpan {
 
 // struct zk_standing: the relation's number, 1 to 13; 0 when refused.
 #[repr(C)]
-#[derive(Drop)]
+#[derive(Clone, Copy)]
 pub struct StandingFinding {
     pub finding: i64,
     pub relation: i64,
@@ -47,7 +49,7 @@ pub struct StandingFinding {
 
 // struct zk_share: the cells covered, and how many thousandths of the room they are; 0 and 0 when refused.
 #[repr(C)]
-#[derive(Drop)]
+#[derive(Clone, Copy)]
 pub struct ShareFinding {
     pub finding: i64,
     pub cells: i64,

@@ -1,4 +1,6 @@
 // The fill of a room (document 02, T-03): how many of its cells the rows of a rule cover in a good placement, and how many thousandths of it.
+#![tactic(auto)]
+
 ghost use Rattle.std.specs.Prelude.{◌≡◌, ◌≤◌};
 ghost use Rattle.sheet.specs.Fill.{rule_asked, room_cells, covered_cells, permille};
 ghost use Rattle.sheet.specs.Refusal.{refusal_fill};

@@ -7,7 +7,7 @@ ghost use Rattle.forbid.specs.Interval.{forbid_first, forbid_last, SumsFit};
 use outline::solid::Extent;
 
 // The numbers from a first to a last one; none where the first exceeds the last.
-#[derive(Drop)]
+#[derive(Clone, Copy)]
 pub(crate) struct Interval {
     pub from: i64,
     pub to: i64,

@@ -1,5 +1,7 @@
 // The points that the non-overlap rules (kind 1) forbid to a row: a forbidden point, with an area around it in which every point is
 // forbidden. Everything of the kernel that asks what a rule of kind 1 forbids asks here.
+#![tactic(auto)]
+
 pub mod clash;
 pub mod interval;
 pub mod pair;
@@ -19,7 +21,7 @@ use words::Place;
 
 // Whether a point is forbidden, and where it is, an area around it in which every point is. The area stands first: a copy of what follows the
 // mark would lie athwart the words as they were written, and wait for them.
-#[derive(Drop)]
+#[derive(Clone, Copy)]
 pub struct Region {
     pub area: Area,
     pub hit: bool,

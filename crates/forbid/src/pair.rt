@@ -14,7 +14,7 @@ use points::{Area, COORDINATES, REACH};
 use words::Place;
 
 // Rule r, a solid of a row, and another solid of row j: what the other forbids to the own one.
-#[derive(Drop)]
+#[derive(Clone, Copy)]
 pub struct Pair {
     pub r: Place,
     pub own: usize,

@@ -12,7 +12,7 @@ use points::{Area, COORDINATES};
 use words::Place;
 
 // A box of a row and a box of another row.
-#[derive(Drop)]
+#[derive(Clone, Copy)]
 pub(crate) struct Boxes {
     pub own: usize,
     pub other: usize,

@@ -1,5 +1,7 @@
 // The form of a text (document 01, "The text program"): from bytes to the words of block and table, with no look at what they mean.
 // A text may have more words than a sheet has room for: the lines past it are checked and counted all the same.
+#![tactic(auto)]
+
 ghost use Rattle.std.specs.Prelude.{◌≡◌, [], ◌∷◌, ◌+◌, ◌≤◌, pos};
 ghost use Rattle.std.proofs.Math.Option.{none, some};
 ghost use Rattle.std.proofs.lemmas.List.Edits.{sets};

@@ -1,5 +1,7 @@
 // Marks on the cells of a grid. The cells are numbered from 0, the first dimension counting fastest: a cell's place in dimension d is a digit
 // of its number, whose base is the grid's width there (crates/integers/specs/Digits). Of the sheet it has the number of dimensions alone.
+#![tactic(auto)]
+
 ghost use Rattle.std.specs.Prelude.{◌≡◌, false, cond, ◌||◌, ℕ, ◌+◌, ◌/◌, ◌%◌, ◌<◌, ◌≤◌, get_or, length};
 ghost use Rattle.integers.specs.Below.{sum_below, product_below};
 ghost use Rattle.grid.specs.Grid.{cells_most, at, in_line, lines, line_start, Lies, in_brick};
@@ -10,7 +12,7 @@ use sheet::DIMS;
 pub const CELLS: usize = 4096;
 
 // A brick of cells: its first place in each dimension, and how many places it takes.
-#[derive(Drop)]
+#[derive(Clone, Copy)]
 pub struct Brick {
     pub from: [usize; DIMS],
     pub size: [usize; DIMS],
@@ -44,7 +46,7 @@ fn lines_of(k: usize, widths: [usize; DIMS], brick: Brick) -> usize
 }
 
 // A quotient and the remainder.
-#[derive(Drop)]
+#[derive(Clone, Copy)]
 struct Division {
     quotient: usize,
     remainder: usize,

@@ -1,5 +1,7 @@
 // The first whole layout (document 02, T-06), a layer above the kernel: it leans on what `settle::settle` promises and on the theorems of
 // crates/sheet. Some placement inside the table is looked for, and its numbers are lowered one after another.
+#![tactic(auto)]
+
 pub(crate) mod find; // find.rt: some placement inside a table
 pub(crate) mod lower; // lower.rt: its numbers lowered one after another
 

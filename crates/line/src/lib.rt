@@ -1,5 +1,7 @@
 // The lines of a text: a letter and so many numbers, parted by commas and closed by line feeds. The next part is found by its
 // separator and lent as a slice; a line's words are stored only when it is whole.
+#![tactic(auto)]
+
 ghost use Rattle.std.specs.Prelude.{◌≡◌, ◌+◌, length, drop};
 ghost use Rattle.std.proofs.Math.Option.{none};
 ghost use Rattle.sheet.specs.Text.{line};
@@ -16,7 +18,7 @@ use stores::{put_word, put_words};
 pub const TEXT_BYTES: usize = 65536;
 
 // Whether a line has the form, and its words: zeros past them, and all zeros of a line that has not.
-#[derive(Drop)]
+#[derive(Clone, Copy)]
 pub struct Line {
     pub whole: bool,
     pub words: [i64; RECORD_WORDS],
@@ -24,7 +26,7 @@ pub struct Line {
 
 // Lines that were read: how many, where the next one starts, and the place past their words. After a last line that is not closed,
 // the next one starts one past the text's end.
-#[derive(Drop)]
+#[derive(Clone, Copy)]
 pub struct Passed {
     pub count: usize,
     pub next: usize,

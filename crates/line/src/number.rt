@@ -4,7 +4,7 @@ ghost use Rattle.sheet.specs.Text.{digits_from, positive, signed, number};
 ghost use Rattle.line.specs.Answers.{number_of};
 
 // A number, or none.
-#[derive(Drop)]
+#[derive(Clone, Copy)]
 pub(crate) enum Number {
     Found(i64),
     Missing,

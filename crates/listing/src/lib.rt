@@ -1,5 +1,7 @@
 // What the program prints (document 01, "The text program"), put into a lent buffer. A buffer that is too short takes what fits, and the
 // result is the length needed.
+#![tactic(auto)]
+
 ghost use Rattle.std.specs.Prelude.{◌≡◌, [], ◌∷◌, ◌++◌, ◌+◌, ◌≤◌, min, pos, length, take};
 ghost use Rattle.std.proofs.Math.Option.{some};
 ghost use Rattle.stores.specs.Put.{Put};

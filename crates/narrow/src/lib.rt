@@ -1,5 +1,7 @@
 // Narrowing one row (document 01): its points are searched shape by shape, and the ends that they reach are written into the row. What can
 // forbid it is listed, for each shape once, in runs that the caller lends.
+#![tactic(auto)]
+
 mod kept;
 mod widen;
 
@@ -29,7 +31,7 @@ use words::Place;
 const NOWHERE: i64 = 1500000;
 
 // What narrowing a row of an accepted sheet came to: no place is left, every word stayed, or some word changed.
-#[derive(Drop)]
+#[derive(Clone, Copy)]
 pub enum Step {
     NoPlace,
     Still,

@@ -24,7 +24,7 @@ use words::Place;
 const FULL: usize = 1000;
 
 // Row i with shape s: for whom a list is made.
-#[derive(Drop)]
+#[derive(Clone, Copy)]
 pub(crate) struct Query {
     pub i: Place,
     pub s: usize,

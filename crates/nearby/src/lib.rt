@@ -1,5 +1,7 @@
 // What can forbid a row with a shape. Suspects, each another row and a rule with an area that holds all they can forbid, are listed once,
 // before the sweeps of that row and shape. Known areas, in which every point is forbidden, are remembered by the sweeps.
+#![tactic(auto)]
+
 pub mod due;
 pub mod gather;
 pub mod known;
@@ -20,7 +22,7 @@ use words::Place;
 
 // A list: the row and the shape for which it is made, how many suspects it holds, and whether these and the known areas hold every point of
 // the row's ranges that is forbidden.
-#[derive(Drop)]
+#[derive(Clone, Copy)]
 pub struct Nearby {
     pub i: Place,
     pub s: usize,

@@ -1,5 +1,7 @@
 // What is read off the block once a call, and then lent for reading only: the boxes of each shape, where every box and the hull of every
 // shape starts and ends, and the rules that count. It is one run of words (specs/Outline).
+#![tactic(auto)]
+
 pub mod chain;
 mod clearance;
 pub mod rules;

@@ -15,7 +15,7 @@ use sheet::BOXES;
 const FAR: i64 = 20000;
 
 // Where a solid starts and ends in one dimension.
-#[derive(Drop)]
+#[derive(Clone, Copy)]
 pub struct Extent {
     pub start: i64,
     pub end: i64,

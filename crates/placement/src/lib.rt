@@ -1,4 +1,6 @@
 // Looking at a sheet: whether a row with a shape is allowed at a point, and whether a fixed placement is good (document 01).
+#![tactic(auto)]
+
 mod judge;
 
 ghost use Rattle.std.specs.Prelude.{◌≡◌, ℕ, ◌<◌};

@@ -1,4 +1,6 @@
 // Points and areas: an array of coordinates by value, and the points from a low to a high one.
+#![tactic(auto)]
+
 pub mod ends; // ends.rt: an area as a run of words
 
 ghost use Rattle.std.specs.Prelude.{◌≡◌, ℕ, ◌<◌, ◌≤◌, length};
@@ -44,7 +46,7 @@ fn lies_between(low: &[i64], high: &[i64], k: usize, p: [i64; COORDINATES]) -> b
 }
 
 // The points from low to high, both included, in each dimension.
-#[derive(Drop)]
+#[derive(Clone, Copy)]
 pub struct Area {
     pub low: [i64; COORDINATES],
     pub high: [i64; COORDINATES],

@@ -1,4 +1,6 @@
 // Where a row may stand before any other row is looked at: its ranges, and of those the points at which every room rule holds.
+#![tactic(auto)]
+
 mod rooms;
 
 ghost use Rattle.sheet.specs.Layout.{axes};

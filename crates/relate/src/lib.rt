@@ -1,5 +1,7 @@
 // How two rows of a fixed placement stand to each other in one dimension (document 02, T-01): which of the thirteen interval relations of
 // document 004, Allen's, the first bears to the second. It is read from a table over four comparisons.
+#![tactic(auto)]
+
 ghost use Rattle.std.specs.Prelude.{◌≡◌};
 ghost use Rattle.integers.specs.Integer.{nat};
 ghost use Rattle.sheet.specs.Refusal.{refusal_relation};

@@ -1,4 +1,6 @@
 // The text program (document 01, "The text program"): a sheet on standard input, what settling finds on standard output.
+#![tactic(auto)]
+
 mod input; // input.rt: reading standard input
 
 ghost use Rattle.std.specs.Prelude.{take};

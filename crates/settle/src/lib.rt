@@ -1,5 +1,7 @@
 // Settling the whole table (document 01): rows are narrowed until none is left that may still move, on a copy of the table, which is
 // written back once.
+#![tactic(auto)]
+
 ghost use Rattle.std.specs.Prelude.{◌≡◌, ◌⊎◌, true, false, ℕ, suc, ◌+◌, ◌<◌, ◌≤◌, length};
 ghost use Rattle.integers.specs.Bits.{bit};
 ghost use Rattle.integers.specs.Words.{word};

@@ -1,5 +1,6 @@
 // The meaning of a room sheet (document 01): the definitions are in specs/, their theorems in proofs/, and here are the limits of a sheet
 // and the answers of the kernel's operations. specs/Answer.antt says which answer stands for which finding; a refusal holds its number.
+#![tactic(auto)]
 
 // ---- the limits that code makes room by
 
@@ -29,7 +30,7 @@ pub const LAYOUT_WORDS: usize = LAYOUT_ROWS * (1 + 2 * AXES);
 // ---- answers
 
 // Whether a row with a shape is allowed at a point.
-#[derive(Drop)]
+#[derive(Clone, Copy)]
 pub enum PointTest {
     Allowed,
     NotAllowed,
@@ -37,7 +38,7 @@ pub enum PointTest {
 }
 
 // Whether a fixed placement is good.
-#[derive(Drop)]
+#[derive(Clone, Copy)]
 pub enum Verdict {
     Good,
     NotGood,
@@ -45,7 +46,7 @@ pub enum Verdict {
 }
 
 // The least or the greatest coordinate of the allowed points, if there is such a point.
-#[derive(Drop)]
+#[derive(Clone, Copy)]
 pub enum Bound {
     At(i64),
     Nothing,
@@ -53,7 +54,7 @@ pub enum Bound {
 }
 
 // What narrowing one row found.
-#[derive(Drop)]
+#[derive(Clone, Copy)]
 pub enum Narrowing {
     Narrowed,
     NoPlace,
@@ -61,7 +62,7 @@ pub enum Narrowing {
 }
 
 // What settling the table found.
-#[derive(Drop)]
+#[derive(Clone, Copy)]
 pub enum Settling {
     Settled,
     NoLayout,
@@ -71,7 +72,7 @@ pub enum Settling {
 // ---- how two rows stand to each other (document 02, T-01)
 
 // The relations of document 004, with their numbers in the request's order; specs/Relation.antt has the rule of each.
-#[derive(Drop)]
+#[derive(Clone, Copy)]
 pub enum Allen {
     Precedes = 1,
     Meets = 2,
@@ -89,7 +90,7 @@ pub enum Allen {
 }
 
 // Which of them the one row bears to the other.
-#[derive(Drop)]
+#[derive(Clone, Copy)]
 pub enum Standing {
     Bears(Allen),
     Refused(i64),
@@ -98,7 +99,7 @@ pub enum Standing {
 // ---- the fill of a room (document 02, T-03)
 
 // How many cells of the room are covered, and how many thousandths of it they are.
-#[derive(Drop)]
+#[derive(Clone, Copy)]
 pub enum Share {
     Of(i64, i64),
     Refused(i64),
@@ -107,7 +108,7 @@ pub enum Share {
 // ---- the first whole layout (document 02, T-06)
 
 // Whether a good placement lies inside the table; the first of them is then written over it.
-#[derive(Drop)]
+#[derive(Clone, Copy)]
 pub enum Layout {
     Placed,
     Nothing,

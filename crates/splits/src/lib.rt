@@ -1,5 +1,7 @@
 // Splitting a table at one number of a row (document 02, T-06). The numbers of a row stand in columns: column 0 is its shape's number, column
 // d + 1 its coordinate in dimension d. In a table that is not fixed several values are open for some number; a split parts them in two.
+#![tactic(auto)]
+
 pub mod pick; // pick.rt: which number is split, and where
 
 ghost use Rattle.std.specs.Prelude.{◌≡◌, suc, ◌+◌, ◌<◌, ◌≤◌, pos, ◌+ℤ◌, length, ◌≤ℤ◌, ◌<ℤ◌};
@@ -18,7 +20,7 @@ const FAR: i64 = 1000000;
 
 // A number of a row, and the value at which it is split: in those up to it, and those past it. Row 0 where no number can be split, since for each
 // of them one value alone is open.
-#[derive(Drop)]
+#[derive(Clone, Copy)]
 pub struct Split {
     pub row: usize,
     pub column: usize,

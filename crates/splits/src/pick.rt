@@ -72,7 +72,7 @@ pub fn first_open(block: &[i64], table: &[i64]) -> Split
 // ---- the one with the most to gain
 
 // A number, and what is gained by splitting it: how far its values reach, by the row's weight.
-#[derive(Drop)]
+#[derive(Clone, Copy)]
 struct Gain {
     row: usize,
     column: usize,

@@ -1,5 +1,7 @@
 // Stores that never leave a lent run: what would stand past its end is counted and left out. So whoever reads or writes a text goes
 // on counting, and too much shows in the counts.
+#![tactic(auto)]
+
 ghost use Rattle.std.specs.Prelude.{◌≡◌, ◌+◌, ◌≤◌, length, set};
 ghost use Rattle.stores.specs.Put.{Put};
 

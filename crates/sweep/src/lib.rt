@@ -1,6 +1,8 @@
 // Document 000's sweep, Algorithms 10 (NewPruneMin) and 12 (AdjustUp): a candidate point and a jump point that move
 // together through the points of a range, the dimension being pruned first and the others in rotation.
 // specs/Theorem.antt says what it finds; points and the mirror that serves the greatest coordinate come first.
+#![tactic(auto)]
+
 ghost use Rattle.std.specs.Prelude.{◌≡◌};
 ghost use Rattle.sweep.specs.Point.{Near, nexts, mirror, turned, turned_end};
 ghost use Rattle.sweep.specs.Rotation.{rotation};
@@ -79,7 +81,7 @@ pub fn rotated(k: usize, d: usize, j: usize) -> usize
 }
 
 // A candidate point and a jump point; live is false once no candidate is left.
-#[derive(Drop)]
+#[derive(Clone, Copy)]
 pub struct Sweep {
     pub candidate: [i64; COORDINATES],
     pub jump: [i64; COORDINATES],

@@ -1,4 +1,6 @@
 // Reading a text (document 01, "The text program"), which makes checks 1 to 8.
+#![tactic(auto)]
+
 ghost use Rattle.std.specs.Prelude.{◌≡◌};
 ghost use Rattle.sheet.specs.Text.{reading};
 ghost use Rattle.text.specs.Answers.{reading_of, refused_by};

@@ -99,7 +99,7 @@ fn new_cells(block: &[i64], table: &[i64], r: usize, q: usize) -> usize {
 // ---- the fill
 
 // How many cells are covered, and how many there are in the boxes together.
-#[derive(Drop)]
+#[derive(Clone, Copy)]
 struct Cells {
     once: usize,
     together: usize,

@@ -12,7 +12,7 @@ pub const TABLE: usize = 288;
 pub const WORDS: usize = 1795;
 
 // How many words of both a sheet takes.
-#[derive(Drop)]
+#[derive(Clone, Copy)]
 pub struct Lengths {
     pub block: usize,
     pub table: usize,

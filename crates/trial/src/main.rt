@@ -1,6 +1,8 @@
 // Holds the kernel against brute force: the rotations, document 01's positions that are not marked, then some thousands of small sheets by
 // chance, some hundreds of larger ones, some thousands of rooms, crowds and tight rooms, and five squares in two rooms. It prints how many
 // were run, how many answers were compared, and how many differ.
+#![tactic(auto)]
+
 mod brute; // brute.rt: what is allowed, by definition; every point tried
 mod catalogue; // catalogue.rt: good placements
 mod compare; // compare.rt: kernel and brute force

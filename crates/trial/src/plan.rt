@@ -19,7 +19,7 @@ pub const TIGHT: usize = 5;
 // How k pairs of words of a record are drawn. Pair d starts at word `at` + `step` * d, and its second word stands `gap` words after the
 // first. The first is one of `n` words from `first` on, the second one of `more` words from `then` on; of a range it is so much past the
 // first. No word is past `limit`.
-#[derive(Drop)]
+#[derive(Clone, Copy)]
 pub struct Pairs {
     pub at: usize,
     pub step: usize,
@@ -33,7 +33,7 @@ pub struct Pairs {
 }
 
 // What a sheet is made of. With no shapes every box and every row is of shape 1, and no shape is drawn.
-#[derive(Drop)]
+#[derive(Clone, Copy)]
 pub struct Plan {
     pub kind: usize,
     pub k: usize,

@@ -7,7 +7,7 @@ use super::{brute, compare, numbers, reading, refusals};
 use sheet::{Allen, Standing};
 
 // The document's origin and end of a row in one dimension.
-#[derive(Drop)]
+#[derive(Clone, Copy)]
 struct Interval {
     origin: i64,
     end: i64,

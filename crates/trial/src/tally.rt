@@ -2,7 +2,7 @@
 use super::numbers;
 use std::num::wrapping_add_u64;
 
-#[derive(Drop)]
+#[derive(Clone, Copy)]
 pub struct Tally {
     pub run: u64, // sheets, positions, or rotations
     pub refused: u64, // sheets

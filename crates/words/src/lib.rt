@@ -2,6 +2,8 @@
 // before there is a head to lean on), to the writing of a narrowed row, and to the reader and the writer of a text.
 // A record's place is found once and handed on, and with it the lengths that checks 2 to 5 leave (`Head`, `Rows`); a reader leans on the
 // range of a word only where it is cast.
+#![tactic(auto)]
+
 ghost use Rattle.std.specs.Prelude.{◌≡◌, true, ◌+◌, ◌^◌, ◌<◌, length, pos};
 ghost use Rattle.integers.specs.Integer.{nat, eq_z, within};
 ghost use Rattle.integers.specs.Below.{any_up_to, UpTo};
@@ -15,7 +17,7 @@ ghost use Rattle.words.specs.Places.{BoxPlace, RulePlace, RowPlace};
 ghost use Rattle.words.specs.Shapes.{LowestShape};
 
 // A record's number, and where its first word stands.
-#[derive(Drop)]
+#[derive(Clone, Copy)]
 pub struct Place {
     pub number: usize,
     pub at: usize,

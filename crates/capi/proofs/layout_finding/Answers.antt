@@ -1,0 +1,22 @@
+-- `capi::layout_finding` meets its contract, by the answer. Assumes nothing.
+use mir.Syntax.{w64}
+use mir.Val.{SFits}
+use mir.Facts.{to_z-of_z}
+use Rattle.capi.specs.Findings.{layout_finding}
+use borrow.Author.Rules.{rules}
+use Rattle.capi.proofs.layout_finding.Goals as goal
+
+pub returns-in-Placed : goal.returns-in-Placed
+unfolding layout_finding
+returns-in-Placed c = rw c.enum_told-1.given.1
+
+pub returns-in-Nothing : goal.returns-in-Nothing
+unfolding layout_finding
+returns-in-Nothing c = rw c.enum_told-in-Nothing-1.given.1
+
+pub returns-in-Refused : goal.returns-in-Refused
+unfolding layout_finding
+returns-in-Refused c =
+    let told = c.before.x-1.given in
+    let f : SFits w64 told.0.0 = search rules in
+    rw told.1 (to_z-of_z f)

@@ -1,0 +1,22 @@
+-- `capi::verdict_finding` meets its contract, by the answer. Assumes nothing.
+use mir.Syntax.{w64}
+use mir.Val.{SFits}
+use mir.Facts.{to_z-of_z}
+use Rattle.capi.specs.Findings.{verdict_finding}
+use borrow.Author.Rules.{rules}
+use Rattle.capi.proofs.verdict_finding.Goals as goal
+
+pub returns-in-Good : goal.returns-in-Good
+unfolding verdict_finding
+returns-in-Good c = rw c.enum_told-1.given.1
+
+pub returns-in-NotGood : goal.returns-in-NotGood
+unfolding verdict_finding
+returns-in-NotGood c = rw c.enum_told-in-NotGood-1.given.1
+
+pub returns-in-Refused : goal.returns-in-Refused
+unfolding verdict_finding
+returns-in-Refused c =
+    let told = c.before.x-1.given in
+    let f : SFits w64 told.0.0 = search rules in
+    rw told.1 (to_z-of_z f)

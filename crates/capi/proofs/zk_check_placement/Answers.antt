@@ -1,0 +1,9 @@
+-- `capi::zk_check_placement` meets its contract: the finding of what `placement::check_placement` answers. Assumes nothing.
+use mathlib.Core.Path.{ap, ◌∙◌}
+use Rattle.words.proofs.Reading.{read_back}
+use Rattle.capi.specs.Findings.{verdict_finding}
+use borrow.Author.Rules.{rules}
+use Rattle.capi.proofs.zk_check_placement.Goals as goal
+
+pub returns : goal.returns
+returns c = read_back (c.verdict_finding.ensures ∙ ap verdict_finding c.before.check_placement.ensures) c.verdict_finding.type_inv

@@ -1,0 +1,10 @@
+-- `capi::zk_fill` meets its contract: the finding of what `fill::fill` answers. Assumes nothing.
+use mathlib.Core.Path.{ap, ◌∙◌}
+use mir.Facts.{to_z-of_z}
+use Rattle.capi.specs.Findings.{share_finding}
+use borrow.Author.Rules.{rules}
+use Rattle.capi.proofs.zk_fill.Goals as goal
+
+pub returns : goal.returns
+returns c =
+    c.share_finding.ensures ∙ ap share_finding (simp (to_z-of_z c.before.before.ranges.rule) at c.before.fill.ensures)

@@ -1,0 +1,13 @@
+-- `capi::zk_narrow` meets its contract: the finding of what `narrow::narrow` answers, and the table as it leaves it. Assumes nothing.
+use mathlib.Core.Path.{ap, ◌∙◌}
+use mir.Facts.{to_z-of_z}
+use Rattle.words.proofs.Reading.{read_back}
+use Rattle.capi.specs.Findings.{narrow_finding}
+use borrow.Author.Rules.{rules}
+use Rattle.capi.proofs.zk_narrow.Goals as goal
+
+pub returns : goal.returns
+returns c =
+    let n = c.before.before in
+    let e = simp (to_z-of_z n.before.before.ranges.row) at n.narrow.ensures in
+    (read_back (c.narrow_finding.ensures ∙ ap narrow_finding e.0) c.narrow_finding.type_inv, e.1)

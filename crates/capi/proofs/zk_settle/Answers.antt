@@ -1,0 +1,11 @@
+-- `capi::zk_settle` meets its contract: the finding of what `settle::settle` answers, and the table as it leaves it. Assumes nothing.
+use mathlib.Core.Path.{ap, ◌∙◌}
+use Rattle.words.proofs.Reading.{read_back}
+use Rattle.capi.specs.Findings.{settle_finding}
+use borrow.Author.Rules.{rules}
+use Rattle.capi.proofs.zk_settle.Goals as goal
+
+pub returns : goal.returns
+returns c =
+    let e = c.before.before.settle.ensures in
+    (read_back (c.settle_finding.ensures ∙ ap settle_finding e.0) c.settle_finding.type_inv, e.1)

@@ -1,0 +1,103 @@
+-- `pair::pair_area` meets its contract: so far the field is cut in each dimension passed. Assumes nothing.
+use mathlib.Core.Path.{◌≡◌, sym, ap₂, ◌∙◌}
+use mathlib.Core.Logic.{⊎_elim}
+use mathlib.Core.Bool.{Bool}
+use mathlib.Core.List.{List}
+use Prim.Native.Nat.{ℕ, ◌≤◌, ◌<◌, ◌-◌}
+use native.Mathlib.Omega.{arith}
+use lib.IntN.{ℤ}
+use lib.ListN.{length, length-set}
+use borrow.Author.Rules.{rules}
+use Rattle.integers.specs.Integer.{within}
+use Rattle.integers.specs.Words.{word}
+use Rattle.integers.proofs.Booleans.{implies-in, implies-out}
+use Rattle.integers.proofs.Ints.{ints}
+use Rattle.integers.proofs.Machine.{within_by}
+use Rattle.sheet.specs.Layout.{dims, axes}
+use Rattle.sheet.proofs.Forbidden.{axis}
+use Rattle.points.specs.Area.{coordinates, field_area}
+use Rattle.points.proofs.Sums.{near-back}
+use Rattle.points.proofs.Fills.{Fills, fills-none, fills-skip, fills-set}
+use Rattle.forbid.specs.declared.pair.Pair.{Pair}
+use Rattle.forbid.specs.Pair.{side_forbids, solids_forbid}
+use Rattle.forbid.proofs.pair.pair_area.Goals as goal
+
+-- the pair forbids p in dimension d, if the rule names d
+abbrev inSide : List ℤ → List ℤ → List ℤ → Pair → ℕ → List ℤ → Bool
+inSide block t o x d p = side_forbids block t o x d (word p d)
+
+pub dims_of-k-requires : goal.dims_of-k-requires
+dims_of-k-requires c = c.requires.accepted.head
+
+pub overflow_sub-low : goal.overflow_sub-low
+overflow_sub-low c = omega ints
+
+pub loop-d-init : goal.loop-d-init
+unfolding field_area
+loop-d-init c = (omega arith, search rules, search rules, fills-none _)
+
+-- the dimension at hand is one of the sheet's
+module _ (c : goal.In-loop-d) where
+  abbrev top : goal.Start
+  top = c.before.before.before.before
+
+  is-dim : c.before.loop-d.d < dims c.before.before.before.before.args.block.now
+  is-dim = omega (arith, c.before.before.before.dims_of-k.ensures, c.loop-d-test.true)
+
+  few : c.before.loop-d.d < coordinates
+  few = omega (arith, is-dim, top.requires.accepted.head.few_dims)
+
+pub names_dim-requires : goal.names_dim-requires
+names_dim-requires c = let w = (top c).requires in (w.rule, w.accepted.dim_sets _ w.rule.below, is-dim c)
+
+pub interval_of-interval-requires : goal.interval_of-interval-requires
+interval_of-interval-requires c = let l = c.before.before in ((top l).requires, is-dim l)
+
+pub offset_bounds-low-d : goal.offset_bounds-low-d
+offset_bounds-low-d c = omega (arith, few c.before.before.before.before.before)
+
+pub bounds-low-d : goal.bounds-low-d
+bounds-low-d c = let l = c.before.before.before.before.before in omega (arith, few l, l.before.loop-d.invariant.1)
+
+pub offset_bounds-high-d : goal.offset_bounds-high-d
+offset_bounds-high-d c = omega (arith, few c.before.before.before.before.before)
+
+pub bounds-high-d : goal.bounds-high-d
+bounds-high-d c = let l = c.before.before.before.before.before in omega (arith, few l, l.before.loop-d.invariant.2)
+
+pub overflow_add-d : goal.overflow_add-d
+overflow_add-d c = omega (arith, few c.before.before)
+
+pub loop-d-smaller : goal.loop-d-smaller
+loop-d-smaller c = omega (arith, c.before.before.loop-d-test.true)
+
+pub loop-d-preserved : goal.loop-d-preserved
+unfolding side_forbids
+loop-d-preserved c =
+    let n = c.before in
+    let l = n.before in
+    let i = l.before.loop-d.invariant in
+    let d = l.before.loop-d.d in
+    let s = top l in
+    let x = axis s.args.block.now (is-dim l) in (
+      omega (arith, l.loop-d-test.true),
+      ⊎_elim (λ w. rw w.4 (simp length-set i.1)) (λ w. rw w.1 i.1) c.if-names_dim.branch,
+      ⊎_elim (λ w. rw w.5 (simp length-set i.2)) (λ w. rw w.2 i.2) c.if-names_dim.branch,
+      ⊎_elim
+          (λ w. let f = w.1.ensures in
+          let from = near-back f.from_within in
+          let to = near-back f.to_within in
+          rw (w.4, w.5) (fills-set _ i.3 (within_by from f.from_within) (within_by to f.to_within) (few l) x i.1 i.2
+          (λ p. ap₂ (λ (y z : ℤ). within y z (word p d)) (from ∙ f.from) (to ∙ f.to)
+          ∙ sym (implies-in _ (sym n.names_dim.ensures ∙ w.0.taken)))))
+          (λ w. rw (w.1, w.2) (fills-skip _ i.3 (λ p. implies-out _ (sym n.names_dim.ensures ∙ w.0.left))))
+          c.if-names_dim.branch,
+    )
+
+pub returns : goal.returns
+unfolding solids_forbid
+returns c =
+    let l = c.before in
+    let n = l.before.before in
+    let q : l.loop-d.d ≡ dims n.before.args.block.now = omega (arith, n.dims_of-k.ensures, l.loop-d.invariant.0, c.loop-d-test.false) in
+    rw q at l.loop-d.invariant.3.cuts

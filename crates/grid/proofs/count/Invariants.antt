@@ -1,0 +1,14 @@
+-- `grid::count` meets its contract: c is how many of the cells before m are marked. Assumes nothing.
+use mathlib.Core.Path.{◌≡◌, sym, ap, ◌∙◌}
+use mathlib.Core.Logic.{⊎_elim}
+use Prim.Native.Nat.{◌-◌, ◌≤◌}
+use native.Mathlib.Omega.{arith}
+use Rattle.integers.proofs.Digits.{sum-zero}
+use Rattle.grid.proofs.Marks.{marked, count_yes, count_no}
+use Rattle.grid.proofs.count.Given as goal
+
+abbrev pub invariant-loop-m : goal.invariant-loop-m
+invariant-loop-m l = (l.m ≤ l.n) × (l.c ≤ l.m) × (l.c ≡ marked l.marks l.m)
+
+abbrev pub decreases-loop-m : goal.decreases-loop-m
+decreases-loop-m l = l.n - l.m

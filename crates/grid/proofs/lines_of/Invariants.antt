@@ -1,0 +1,14 @@
+-- `grid::lines_of` meets its contract: n is the product of the sizes before d. Assumes nothing.
+use mathlib.Core.Path.{◌≡◌, sym, ap, ◌∙◌}
+use Prim.Native.Nat.{ℕ, ◌+◌, ◌-◌, ◌*◌, ◌≤◌}
+use native.Mathlib.Omega.{arith}
+use Rattle.grid.specs.Grid.{at, lines}
+use Rattle.grid.proofs.Lines.{lines-one, lines_more}
+use Rattle.grid.proofs.Bricks.{lines-few}
+use Rattle.grid.proofs.lines_of.Given as goal
+
+abbrev pub invariant-loop-d : goal.invariant-loop-d
+invariant-loop-d l = (1 ≤ l.d) × (l.d ≤ l.k) × (l.n ≡ lines l.d l.size)
+
+abbrev pub decreases-loop-d : goal.decreases-loop-d
+decreases-loop-d l = l.k - l.d

@@ -1,0 +1,22 @@
+-- `line::number::read_digits` meets its contract. The invariant: the digits from `i` on, read onto `n`, give what all of them give onto
+-- `v`, and `n` has room for as many digits as are left. Assumes nothing.
+use mathlib.Core.Path.{◌≡◌, refl, sym, ap, ◌∙◌}
+use mathlib.Core.Bool.{true}
+use mathlib.Core.Option.{Option}
+use Prim.Native.Nat.{ℕ, suc, ◌+◌, ◌*◌, ◌-◌, ◌^◌, ◌≤◌, ◌<◌}
+use native.Mathlib.Omega.{arith}
+use borrow.Author.Rules.{rules}
+use lib.IntN.{pos}
+use lib.ListN.{length, get_or, drop}
+use Rattle.integers.proofs.Booleans.{not-true, not-false}
+use Rattle.sheet.specs.Text.{digits_from, signed}
+use Rattle.line.specs.Answers.{number_of}
+use Rattle.line.proofs.Digits.{between, between-true, digits_more, digits-bad, digits-end, room_small, room-more, room-first}
+use Rattle.line.proofs.Numbers.{word_fits, word-is}
+use Rattle.line.proofs.number.read_digits.Given as goal
+
+abbrev pub invariant-loop-i : goal.invariant-loop-i
+invariant-loop-i l = (digits_from l.n (drop l.i l.f) ≡ digits_from l.v l.f) × ((l.n + 1) * 10 ^ (length l.f - l.i) ≤ 10000000000) × (l.i ≤ length l.f)
+
+abbrev pub decreases-loop-i : goal.decreases-loop-i
+decreases-loop-i l = length l.f - l.i

@@ -1,0 +1,86 @@
+-- `line::read_fields` meets its contract. The invariant: the fields from `p` on, put from place `i` on, give the whole line.
+-- Assumes nothing.
+use mathlib.Core.Path.{◌≡◌, refl, sym, ◌∙◌}
+use Prim.Native.Nat.{◌-◌, ◌≤◌}
+use native.Mathlib.Omega.{arith}
+use borrow.Author.Rules.{rules}
+use lib.ListN.{length}
+use mir.Facts.{to_z-of_z}
+use Rattle.integers.proofs.Machine.{fits_word}
+use Rattle.sheet.specs.Layout.{record_most}
+use Rattle.line.specs.Parts.{parts_from, numbers_in}
+use Rattle.line.specs.Answers.{zeros, line_of}
+use Rattle.line.proofs.Parts.{part-ends}
+use Rattle.line.proofs.Numbers.{number-found, number-missing}
+use Rattle.line.proofs.Fields.{walked, walked-first, fields-few, fields-end, fields-over, fields-bad, fields-more}
+use Rattle.line.proofs.read_fields.Goals as goal
+
+pub loop-i-init : goal.loop-i-init
+unfolding zeros
+loop-i-init c = (walked-first _ _ _, omega arith, refl)
+
+pub returns-then-p-s : goal.returns-then-p-s
+returns-then-p-s c =
+    c.no_line.ensures
+    ∙ fields-few _ _ _ c.before.before.before.loop-i.w _ c.before.before.loop-i-test.true c.before.if-p-s.true
+    ∙ c.before.before.before.loop-i.invariant.0
+
+ends : (c : goal.After-find-e) → c.find-e.result ≤ length c.before.before.before.before.before.args.s.now
+ends c = part-ends 44 c.before.before.before.before.before.args.s.now c.before.if-p-s.false c.find-e.ensures
+
+pub slice_bounds-read_number-count : goal.slice_bounds-read_number-count
+slice_bounds-read_number-count c = omega arith
+
+pub slice_bounds-read_number-start : goal.slice_bounds-read_number-start
+slice_bounds-read_number-start c = omega arith
+
+pub slice_bounds-read_number-end : goal.slice_bounds-read_number-end
+slice_bounds-read_number-end c = ends c
+
+pub returns-in_default : goal.returns-in_default
+returns-in_default c =
+    let read_number = c.before.before.before in
+    let find = read_number.before.before in
+    let if1 = find.before in
+    let loop-test = if1.before in
+    let loop = loop-test.before in
+    let missing = number-missing _ (sym read_number.read_number.ensures ∙ c.before.enum_told-1.given.1) in
+    c.no_line-in_default.ensures
+    ∙ fields-bad _ _ _ loop.loop-i.w _ _ if1.if-p-s.false find.find-e.ensures loop-test.loop-i-test.true missing
+    ∙ loop.loop-i.invariant.0
+
+pub overflow_add-i : goal.overflow_add-i
+overflow_add-i c = omega arith
+
+pub overflow_add-p : goal.overflow_add-p
+overflow_add-p c = omega (arith, ends c.before.before.before.before.before.before.before.before)
+
+pub loop-i-smaller : goal.loop-i-smaller
+loop-i-smaller c = omega arith
+
+pub loop-i-preserved : goal.loop-i-preserved
+loop-i-preserved c =
+    let known-told = c.before.before.before in
+    let v = known-told.before in
+    let read_number = v.before.before in
+    let find = read_number.before.before in
+    let if1 = find.before in
+    let loop-test = if1.before in
+    let loop = loop-test.before in
+    let found = number-found _ (sym read_number.read_number.ensures ∙ v.v-1.given.1) in
+    let put = rw (to_z-of_z (fits_word _ known-told.known_told-1.given.0.1)) at c.before.put_word.ensures in
+    let more = fields-more _ _ _ loop.loop-i.w _ _ if1.if-p-s.false find.find-e.ensures loop-test.loop-i-test.true _ found in
+    (rw put (more ∙ loop.loop-i.invariant.0), omega arith, c.before.put_word.auto.0 ∙ loop.loop-i.invariant.2)
+
+pub returns-then-p-s-2 : goal.returns-then-p-s-2
+returns-then-p-s-2 c =
+    let loop-test = c.before.before in
+    let loop = loop-test.before in
+    c.no_line-then-p-s-2.ensures
+    ∙ fields-over _ _ _ loop.loop-i.w _ _ c.before.if-p-s-2.true refl loop-test.loop-i-test.false
+    ∙ loop.loop-i.invariant.0
+
+pub returns : goal.returns
+returns c =
+    let loop = c.before.before in
+    fields-end _ _ _ loop.loop-i.w _ c.before.loop-i-test.false c.if-p-s-2.false ∙ loop.loop-i.invariant.0

@@ -1,0 +1,55 @@
+-- `listing::put_commas` meets its contract. The invariant: the words from `i` on are left to put. Assumes nothing.
+use mathlib.Core.Path.{sym, ◌∙◌}
+use Prim.Native.Nat.{◌+◌, ◌*◌, ◌-◌, ◌≤◌}
+use native.Mathlib.Omega.{arith}
+use borrow.Author.Rules.{rules}
+use lib.IntN.{pos}
+use lib.ListN.{length, get_or, drop}
+use mir.Syntax.{w64}
+use mir.Val.{SFits}
+use mir.Facts.{to_z-of_z}
+use Rattle.stores.proofs.Puts.{Left, left-all, left-more, left-done, left-length, put_as, put_one}
+use Rattle.sheet.specs.Text.{commas}
+use Rattle.listing.proofs.Sizes.{shown-few}
+use Rattle.listing.proofs.Rows.{commas-more, commas-end}
+use Rattle.listing.proofs.put_commas.Goals as goal
+
+pub loop-i-init : goal.loop-i-init
+loop-i-init c = (left-all _ _ _, omega arith, omega arith)
+
+pub put_field-p-requires : goal.put_field-p-requires
+put_field-p-requires c = omega arith
+
+pub overflow_add-i : goal.overflow_add-i
+overflow_add-i c = omega arith
+
+pub loop-i-smaller : goal.loop-i-smaller
+loop-i-smaller c = omega arith
+
+pub loop-i-preserved : goal.loop-i-preserved
+loop-i-preserved c =
+    let put-field = c.before.before in
+    let loop-test = put-field.before.before.before in
+    let loop = loop-test.before in
+    let start = loop.before.before in
+    let words = start.args.words.now in
+    let loop = loop.loop-i in
+    let f : SFits w64 (get_or words loop.i (pos 0)) = search rules in
+    let put = rw (to_z-of_z f) at put-field.put_field-p.ensures in
+    let size = shown-few (get_or words loop.i (pos 0)) in
+    (left-more loop.invariant.0 (commas-more words loop.i loop-test.loop-i-test.true) put, omega (arith, put.past), omega arith)
+
+pub overflow_add-result : goal.overflow_add-result
+overflow_add-result c = omega arith
+
+pub shape_of-out : goal.shape_of-out
+shape_of-out c = c.before.before.put_byte.auto.0 ∙ left-length c.before.before.before.before.before.loop-i.invariant.0
+
+pub returns : goal.returns
+returns c =
+    let put_byte = c.before.before in
+    let loop-test = put_byte.before.before in
+    let loop = loop-test.before in
+    let start = loop.before.before in
+    let end = commas-end start.args.words.now loop.loop-i.i loop-test.loop-i-test.false in
+    left-done loop.loop-i.invariant.0 (put_as (sym end) (put_one put_byte.put_byte.ensures))

@@ -1,0 +1,108 @@
+-- `listing::put_rows` meets its contract. The invariant: the rows from `m` on, whose words start at `start`, are left to put.
+-- Assumes nothing.
+use mathlib.Core.Path.{◌≡◌, sym, ap}
+use mathlib.Core.List.{List, ◌++◌}
+use Prim.Native.Nat.{ℕ, ◌+◌, ◌*◌, ◌-◌, ◌≤◌}
+use native.Mathlib.Omega.{arith}
+use native.Mathlib.Nat.{zero-add}
+use lib.IntN.{ℤ, pos}
+use lib.ListN.{length, take, drop, length-append}
+use Rattle.stores.proofs.Puts.{Left, left-more, left-done, left-length, put_as, put-none}
+use Rattle.sheet.specs.Layout.{table_most}
+use Rattle.sheet.specs.Text.{shown, commas, row_lines}
+use Rattle.listing.proofs.Sizes.{shown-few, commas-few}
+use Rattle.listing.proofs.Rows.{rows-first, rows_more, rows_end, row_room, row_words, row-length}
+use Rattle.listing.proofs.put_rows.Lts as lts
+use Rattle.listing.proofs.put_rows.Reads as reads
+use Rattle.listing.proofs.put_rows.Tie as tie
+use Rattle.listing.proofs.put_rows.Goals as goal
+
+abbrev In-loop-m : Type 0
+In-loop-m = lts.In-loop tie.the-claims reads.Pre reads.Post goal.the-invariant-loop-m goal.the-decreases-loop-m
+
+pub loop-m-init : goal.loop-m-init
+loop-m-init c =
+    let all : c.before.args.n - 0 ≡ c.before.args.n = omega arith in
+    (rows-first _ _ _ _ _, omega arith, rw (zero-add, all) c.before.requires.inside, omega arith)
+
+-- the next row has its room
+record Room (start len n m size : ℕ) : Type 0 where
+  fits : start + len ≤ size
+  more : start + len + (n - (m + 1)) * len ≤ size
+  few : size ≤ table_most
+
+room : (c : In-loop-m)
+    → let args = c.before.before.before.args in
+    Room c.before.loop-m.start args.len args.n c.before.loop-m.m (length args.table.now)
+room c =
+    let start = c.before.before.before in
+    let r =
+    row_room c.before.loop-m.start start.args.len start.args.n c.before.loop-m.m _ c.loop-m-test.true c.before.loop-m.invariant.2 in
+    record { fits = r.0; more = r.1; few = start.requires.table_short }
+
+pub overflow_add-m : goal.overflow_add-m
+overflow_add-m c = omega arith
+
+pub overflow_add-start : goal.overflow_add-start
+overflow_add-start c = let r = room c.before in omega arith
+
+pub offset_bounds-table-start : goal.offset_bounds-table-start
+offset_bounds-table-start c = let r = room c.before in omega arith
+
+pub slice_bounds-put_row-count : goal.slice_bounds-put_row-count
+slice_bounds-put_row-count c = omega arith
+
+pub slice_bounds-put_row-start : goal.slice_bounds-put_row-start
+slice_bounds-put_row-start c = let r = room c.before in omega arith
+
+pub slice_bounds-put_row-end : goal.slice_bounds-put_row-end
+slice_bounds-put_row-end c = let r = room c.before in omega arith
+
+pub put_row-p-requires : goal.put_row-p-requires
+put_row-p-requires c =
+    let loop-test = c.before.before in
+    let loop = loop-test.before in
+    let start = loop.before.before in
+    let r = room loop-test in
+    let args = start.args in
+    let t = args.table.now in
+    let words = row_words t loop.loop-m.start args.len in
+    let size = row-length t loop.loop-m.start args.len r.ranges in
+    (omega (arith, loop.loop-m.invariant.1, start.requires.early, start.requires.few), rw (words, size) (omega arith))
+
+pub overflow_add-start-in-loop-m : goal.overflow_add-start-in-loop-m
+overflow_add-start-in-loop-m c = let r = room c.before.before.before.before.before in omega arith
+
+pub overflow_add-m-in-loop-m : goal.overflow_add-m-in-loop-m
+overflow_add-m-in-loop-m c = omega arith
+
+pub loop-m-smaller : goal.loop-m-smaller
+loop-m-smaller c = omega arith
+
+pub loop-m-preserved : goal.loop-m-preserved
+loop-m-preserved c =
+    let put-row = c.before.before in
+    let loop-test = put-row.before.before.before in
+    let loop = loop-test.before in
+    let start = loop.before.before in
+    let args = start.args in
+    let loop = loop.loop-m in
+    let t = args.table.now in
+    let r = room loop-test in
+    let row = take args.len (drop loop.start t) in
+    let put =
+    put_as (ap (λ (x : List ℤ). shown (pos (loop.m + 1)) ++ commas x) (row_words t loop.start args.len)) put-row.put_row-p.ensures in
+    let more = rows_more args.len args.n loop.m loop.start t loop-test.loop-m-test.true in
+    let size = row-length t loop.start args.len r.ranges in
+    let a = shown-few (pos (loop.m + 1)) in
+    let b = commas-few row in
+    let e = length-append (shown (pos (loop.m + 1))) (commas row) in
+    (left-more loop.invariant.0 more put, omega (arith, put.past, loop.invariant.1), r.more, omega arith)
+
+pub shape_of-out : goal.shape_of-out
+shape_of-out c = left-length c.before.loop-m.invariant.0
+
+pub returns : goal.returns
+returns c =
+    let none_left : c.before.before.before.args.n - c.before.loop-m.m ≡ 0 = omega arith in
+    left-done c.before.loop-m.invariant.0 (put_as (sym (rows_end _ _ _ none_left)) (put-none _ _))

@@ -1,0 +1,23 @@
+-- `listing::put_rows` meets its contract. The invariant: the rows from `m` on, whose words start at `start`, are left to put.
+-- Assumes nothing.
+use mathlib.Core.Path.{◌≡◌, sym, ap}
+use mathlib.Core.List.{List, ◌++◌}
+use Prim.Native.Nat.{ℕ, ◌+◌, ◌*◌, ◌-◌, ◌≤◌}
+use native.Mathlib.Omega.{arith}
+use native.Mathlib.Nat.{zero-add}
+use lib.IntN.{ℤ, pos}
+use lib.ListN.{length, take, drop, length-append}
+use Rattle.stores.proofs.Puts.{Left, left-more, left-done, left-length, put_as, put-none}
+use Rattle.sheet.specs.Layout.{table_most}
+use Rattle.sheet.specs.Text.{shown, commas, row_lines}
+use Rattle.listing.proofs.Sizes.{shown-few, commas-few}
+use Rattle.listing.proofs.Rows.{rows-first, rows_more, rows_end, row_room, row_words, row-length}
+use Rattle.listing.proofs.put_rows.Given as goal
+
+abbrev pub invariant-loop-m : goal.invariant-loop-m
+invariant-loop-m l =
+    Left l.initial.out l.at (row_lines l.len l.n 0 l.table) l.out l.p (row_lines l.len (l.n - l.m) l.m (drop l.start l.table))
+    × (l.p ≤ l.at + 22 * l.start + 22 * l.m) × (l.start + (l.n - l.m) * l.len ≤ length l.table) × (l.m ≤ l.n)
+
+abbrev pub decreases-loop-m : goal.decreases-loop-m
+decreases-loop-m l = l.n - l.m

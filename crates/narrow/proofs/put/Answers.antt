@@ -1,0 +1,21 @@
+-- `put` meets its contract: a comparison of bits is one of words. Assumes nothing.
+use mathlib.Core.Path.{sym, ap, ◌∙◌}
+use mathlib.Core.Bool.{Bool, not, ◌||◌}
+use lib.ListN.{set}
+use mir.Syntax.{w64}
+use mir.Val.{SFits}
+use mir.Facts.{to_z-of_z}
+use Rattle.integers.specs.Integer.{eq_z}
+use Rattle.integers.specs.Words.{word}
+use Rattle.integers.proofs.Machine.{fits_word, eqb-bits}
+use borrow.Author.Rules.{rules}
+use Rattle.narrow.proofs.put.Goals as goal
+
+pub returns : goal.returns
+returns c =
+    let s = c.before.before in
+    let a = s.args in
+    let f : SFits w64 (word a.table.now a.at) = fits_word _ c.before.old-1.given in (
+      ap (set a.table.now a.at) (to_z-of_z s.ranges.w),
+      ap not (eqb-bits f s.ranges.w) ∙ ap (λ (b : Bool). b || not (eq_z (word a.table.now a.at) a.w)) (sym c.if-moved.false),
+    )

@@ -1,0 +1,21 @@
+-- `nearby::gather::fills_hulls` meets its contract: it says yes where all three tests do. Assumes nothing.
+use mathlib.Core.Path.{refl, sym, ◌∙◌}
+use borrow.Author.Rules.{rules}
+use Rattle.integers.proofs.Booleans.{clash, not-false}
+use Rattle.nearby.proofs.gather.fills_hulls.Goals as goal
+
+pub returns-then-not-has_one_shape : goal.returns-then-not-has_one_shape
+returns-then-not-has_one_shape c e = clash e refl
+
+pub returns-then-is_single : goal.returns-then-is_single
+returns-then-is_single c e =
+    let x = c.before in
+    let y = x.before.before in
+    record {
+      own = x.before.is_single.ensures x.if-is_single.true;
+      other = c.is_single-then-is_single.ensures e;
+      one = sym y.before.has_one_shape.ensures ∙ not-false y.if-not-has_one_shape.false-raw;
+    }
+
+pub returns-else-is_single : goal.returns-else-is_single
+returns-else-is_single c e = clash e c.if-is_single.false

@@ -1,0 +1,117 @@
+-- `nearby::gather::gather` meets its contract: so far what the rules passed forbid is listed, and none that counts is left where the loop ends.
+-- Assumes nothing.
+use mathlib.Core.Path.{◌≡◌, refl, ◌∙◌, subst}
+use mathlib.Core.Logic.{⊎_elim}
+use mathlib.Core.Bool.{true, false, ◌&&◌}
+use Prim.Native.Nat.{ℕ, ◌-◌, ◌^◌, ◌≤◌, ◌<◌}
+use native.Mathlib.Omega.{arith}
+use lib.ListN.{length}
+use borrow.Author.Rules.{rules}
+use Rattle.integers.specs.Below.{any_below}
+use Rattle.integers.specs.Bits.{bit}
+use Rattle.integers.specs.Words.{word}
+use Rattle.integers.proofs.Booleans.{clash}
+use Rattle.integers.proofs.Below.{below_or}
+use Rattle.integers.proofs.Bits.{bit_past}
+use Rattle.sheet.specs.Layout.{rules}
+use Rattle.outline.specs.Places.{rules_at}
+use Rattle.forbid.specs.Region.{rule_forbids}
+use Rattle.nearby.specs.Adding.{Open, Grows}
+use Rattle.nearby.proofs.Remembered.{known-none}
+use Rattle.nearby.proofs.Covers.{counted-forbid}
+use Rattle.nearby.proofs.Gathers.{gathered-start, suspects-none, grows_start, grows-more, open_after}
+use Rattle.nearby.proofs.gather.gather.Lts as lts
+use Rattle.nearby.proofs.gather.gather.Reads as reads
+use Rattle.nearby.proofs.gather.gather.Tie as tie
+use Rattle.nearby.proofs.gather.gather.Goals as goal
+
+abbrev Start : Type 0
+Start = lts.Start tie.the-claims reads.Pre reads.Post goal.the-invariant-loop-r goal.the-decreases-loop-r
+
+abbrev Left-loop-r : Type 0
+Left-loop-r = lts.Left-loop tie.the-claims reads.Pre reads.Post goal.the-invariant-loop-r goal.the-decreases-loop-r
+
+pub rules_of-n-requires : goal.rules_of-n-requires
+rules_of-n-requires c = c.before.before.requires.accepted.head
+
+pub counting-counted-requires : goal.counting-counted-requires
+counting-counted-requires c = c.before.before.before.requires.outline.rules.count
+
+-- before the loop
+abbrev start : goal.After-counting-counted → Start
+start c = c.before.before.before.before
+
+begin : (c : goal.After-counting-counted) → let a = (start c).args in
+    Open a.block.now a.table.now a.i.number a.s a.suspects.now c.before.before.forget.new.known 0
+begin c = let e = c.before.before.forget.ensures in gathered-start (known-none e.0 e.1)
+
+pub loop-r-init : goal.loop-r-init
+loop-r-init c =
+    let a = (start c).args in (
+      omega arith,
+      begin c,
+      grows_start (λ m p. bit (word a.outline.now rules_at) m && rule_forbids a.block.now a.table.now a.i.number a.s m p),
+      refl,
+    )
+
+pub is_below-requires : goal.is_below-requires
+is_below-requires c =
+    let b = c.before.before in
+    omega (arith, c.loop-r-test.true, b.before.rules_of-n.ensures, (start b).requires.accepted.head.few_rules)
+
+pub add_rule-found-requires : goal.add_rule-found-requires
+add_rule-found-requires c =
+    let l = c.before.before.before.before in
+    let b = l.before.before in
+    (record { subject = (start b).requires; open_list = l.before.loop-r.invariant.1 }, omega (arith, l.loop-r-test.true, b.before.rules_of-n.ensures))
+
+pub loop-r-preserved : goal.loop-r-preserved
+loop-r-preserved c =
+    let w = c.before in
+    let l = w.before.before.before.before.before in
+    let v = l.before.loop-r.invariant in
+    let a = (start l.before.before).args in (
+      omega (arith, l.loop-r-test.true),
+      open_after w.add_rule-found.ensures v.1,
+      grows-more (λ m p. bit (word a.outline.now rules_at) m && rule_forbids a.block.now a.table.now a.i.number a.s m p)
+          v.2 w.add_rule-found.ensures,
+      c.suspects-1.given ∙ v.3,
+    )
+
+-- the loop ends past every rule that counts
+no_more : (c : Left-loop-r) (q : ℕ) → let a = (start c.before.before).args in
+    q < rules a.block.now → bit (word a.outline.now rules_at) q ≡ true → q < c.before.loop-r.r
+no_more c q h e =
+    let b = c.before.before in
+    ⊎_elim
+    (λ x. omega (arith, x.left, b.before.rules_of-n.ensures))
+    (λ x. ⊎_elim (λ l. l)
+    (λ l. clash e (bit_past _ (subst (λ (n : ℕ). n < 2 ^ c.before.loop-r.r) b.counting-counted.ensures (x.1.ensures.0 x.2.taken)) l))
+    (below_or q c.before.loop-r.r))
+    c.loop-r-test.branch
+
+pub shape_of-suspects-then-found-lt-FULL : goal.shape_of-suspects-then-found-lt-FULL
+shape_of-suspects-then-found-lt-FULL c = c.before.before.loop-r.invariant.3
+
+pub returns-then-found-lt-FULL : goal.returns-then-found-lt-FULL
+returns-then-found-lt-FULL c =
+    let e = c.before in
+    let l = e.before in
+    let b = l.before in
+    let g = l.loop-r.invariant.2.after (λ p. false) (begin b) in
+    let f = c.if-found-lt-FULL.true in (
+      record {
+        areas = g.areas;
+        suspects = g.suspects f;
+        meets = λ w p inside k h. g.meets f p inside (counted-forbid _ _ _ (start b).requires.outline.rules _ _ _ (no_more e) p h) k;
+      },
+      refl,
+      refl,
+    )
+
+pub shape_of-suspects : goal.shape_of-suspects
+shape_of-suspects c = c.before.before.loop-r.invariant.3
+
+pub returns : goal.returns
+returns c =
+    (record { areas = c.before.before.loop-r.invariant.1.areas; suspects = suspects-none _; meets = λ w. clash w refl }, refl, refl)

@@ -1,0 +1,33 @@
+-- `nearby::gather::gather` meets its contract: so far what the rules passed forbid is listed, and none that counts is left where the loop ends.
+-- Assumes nothing.
+use mathlib.Core.Path.{◌≡◌, refl, ◌∙◌, subst}
+use mathlib.Core.Logic.{⊎_elim}
+use mathlib.Core.Bool.{true, false, ◌&&◌}
+use Prim.Native.Nat.{ℕ, ◌-◌, ◌^◌, ◌≤◌, ◌<◌}
+use native.Mathlib.Omega.{arith}
+use lib.ListN.{length}
+use borrow.Author.Rules.{rules}
+use Rattle.integers.specs.Below.{any_below}
+use Rattle.integers.specs.Bits.{bit}
+use Rattle.integers.specs.Words.{word}
+use Rattle.integers.proofs.Booleans.{clash}
+use Rattle.integers.proofs.Below.{below_or}
+use Rattle.integers.proofs.Bits.{bit_past}
+use Rattle.sheet.specs.Layout.{rules}
+use Rattle.outline.specs.Places.{rules_at}
+use Rattle.forbid.specs.Region.{rule_forbids}
+use Rattle.nearby.specs.Adding.{Open, Grows}
+use Rattle.nearby.proofs.Remembered.{known-none}
+use Rattle.nearby.proofs.Covers.{counted-forbid}
+use Rattle.nearby.proofs.Gathers.{gathered-start, suspects-none, grows_start, grows-more, open_after}
+use Rattle.nearby.proofs.gather.gather.Given as goal
+
+abbrev pub invariant-loop-r : goal.invariant-loop-r
+invariant-loop-r l =
+    (l.r ≤ l.n) × Open l.block l.table l.i.number l.s l.suspects l.known l.found
+    × Grows l.block l.table l.i.number l.s (λ p. any_below l.r (λ m. bit (word l.outline rules_at) m && rule_forbids l.block l.table l.i.number l.s m p))
+    l.initial.suspects l.initial.known l.initial.found l.suspects l.known l.found
+    × (length l.suspects ≡ length l.initial.suspects)
+
+abbrev pub decreases-loop-r : goal.decreases-loop-r
+decreases-loop-r l = l.n - l.r

@@ -1,0 +1,19 @@
+-- `outline::rules::dim_set` meets its contract: the word is a count and is cast whole. Assumes nothing.
+use mathlib.Core.Path.{sym, ap, ◌∙◌, subst}
+use borrow.Author.Rules.{rules}
+use Rattle.integers.specs.Integer.{nat}
+use Rattle.integers.proofs.Machine.{cast_ok}
+use Rattle.sheet.specs.Accepted.{Count}
+use Rattle.words.proofs.Reading.{cast-nat}
+use Rattle.outline.proofs.rules.dim_set.Goals as goal
+
+is-count : (c : goal.After-dim_set_of) → Count c.dim_set_of.result
+is-count c =
+    let s = c.before in
+    subst Count (sym c.dim_set_of.ensures) (s.requires.0.dim_sets s.args.r.number s.requires.1.below)
+
+pub overflow_cast-result : goal.overflow_cast-result
+overflow_cast-result c = cast_ok (is-count c).from (is-count c).upto tt tt
+
+pub returns : goal.returns
+returns c = cast-nat c.dim_set_of.result c.dim_set_of.type_inv (is-count c) ∙ ap nat c.dim_set_of.ensures

@@ -1,0 +1,30 @@
+-- `outline::rules::is_covered` meets its contract: the first rule that covers is the answer. Assumes nothing.
+use mathlib.Core.Path.{refl}
+use Prim.Native.Nat.{◌-◌, ◌≤◌}
+use native.Mathlib.Omega.{arith}
+use Rattle.integers.proofs.Booleans.{clash}
+use Rattle.outline.proofs.rules.is_covered.Goals as goal
+
+pub loop-q-init : goal.loop-q-init
+loop-q-init c = omega arith
+
+pub covers-requires : goal.covers-requires
+covers-requires c = let s = c.before.before in (s.requires.0, omega (arith, s.requires.1, c.loop-q-test.true), s.requires.2)
+
+pub returns-then-covers : goal.returns-then-covers
+returns-then-covers c = λ e.
+    let f = c.before in
+    let x = f.covers.ensures c.if-covers.true in
+    record { rule = f.before.before.loop-q.q; counts = x.0; covers = x.1 }
+
+pub overflow_add-q : goal.overflow_add-q
+overflow_add-q c = omega arith
+
+pub loop-q-smaller : goal.loop-q-smaller
+loop-q-smaller c = omega arith
+
+pub loop-q-preserved : goal.loop-q-preserved
+loop-q-preserved c = omega arith
+
+pub returns : goal.returns
+returns c = λ e. clash e refl

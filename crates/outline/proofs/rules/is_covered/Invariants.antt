@@ -1,0 +1,12 @@
+-- `outline::rules::is_covered` meets its contract: the first rule that covers is the answer. Assumes nothing.
+use mathlib.Core.Path.{refl}
+use Prim.Native.Nat.{◌-◌, ◌≤◌}
+use native.Mathlib.Omega.{arith}
+use Rattle.integers.proofs.Booleans.{clash}
+use Rattle.outline.proofs.rules.is_covered.Given as goal
+
+abbrev pub invariant-loop-q : goal.invariant-loop-q
+invariant-loop-q l = l.q ≤ l.n
+
+abbrev pub decreases-loop-q : goal.decreases-loop-q
+decreases-loop-q l = l.n - l.q

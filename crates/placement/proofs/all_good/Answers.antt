@@ -1,0 +1,61 @@
+-- `placement::all_good` meets its contract: so far every row passed is clear of the rows before it. Assumes nothing.
+use mathlib.Core.Path.{sym, subst}
+use mathlib.Core.Logic.{⊎_elim}
+use Prim.Native.Nat.{ℕ, ◌+◌, ◌-◌, ◌≤◌}
+use native.Mathlib.Omega.{arith}
+use borrow.Author.Rules.{rules}
+use Rattle.integers.proofs.Booleans.{not-true, not-false}
+use Rattle.integers.proofs.Below.{up_next, same_or}
+use Rattle.sheet.specs.Placement.{good}
+use Rattle.accept.proofs.Turns.{upto_false}
+use Rattle.placement.specs.Rows.{row_good}
+use Rattle.placement.specs.Before.{Clear, Judged}
+use Rattle.placement.proofs.Earlier.{clear-good}
+use Rattle.placement.proofs.all_good.Lts as lts
+use Rattle.placement.proofs.all_good.Reads as reads
+use Rattle.placement.proofs.all_good.Tie as tie
+use Rattle.placement.proofs.all_good.Goals as goal
+
+abbrev After-row_stands : Type 0
+After-row_stands = lts.After-row_stands tie.the-claims reads.Pre reads.Post goal.the-invariant-loop-m goal.the-decreases-loop-m
+
+-- what was found of the row at hand
+answer : (c : After-row_stands) → let l = c.before.before.before in let a = l.before.before.args in
+    Judged a.block.now a.table.now (l.loop-m.m + 1) c.row_stands.result
+answer c = rw c.before.row_place.ensures.1 at c.row_stands.ensures
+
+pub rows_of-n-requires : goal.rows_of-n-requires
+rows_of-n-requires c = c.requires.accepted.head
+
+pub loop-m-init : goal.loop-m-init
+loop-m-init c = (search rules, λ i h k. absurd (omega arith))
+
+pub row_place-requires : goal.row_place-requires
+row_place-requires c =
+    let s = c.before.before.before.requires in
+    (s.accepted.head, s.table.whole, up_next (omega (arith, c.before.before.rows_of-n.ensures, c.loop-m-test.true)))
+
+pub row_stands-requires : goal.row_stands-requires
+row_stands-requires c = (c.before.before.before.before.requires, c.row_place.ensures.0)
+
+pub returns-then-not-row_stands : goal.returns-then-not-row_stands
+unfolding good
+returns-then-not-row_stands c =
+    let l = c.before.before.before.before in
+    let a = l.before.before.args in
+    sym (upto_false (row_good a.block.now a.table.now) (omega (arith, l.before.rows_of-n.ensures))
+    ((answer c.before).bad (not-true c.if-not-row_stands.true-raw)))
+
+pub loop-m-preserved : goal.loop-m-preserved
+loop-m-preserved c =
+    let l = c.before.before.before.before in
+    let here = (answer c.before).clear (not-false c.if-not-row_stands.false-raw) in (
+      search rules,
+      λ i h k. ⊎_elim (λ q. subst (Clear _ _) (sym q) here) (λ q. l.loop-m.invariant.1 i h (omega (arith, k, q))) (same_or i (l.loop-m.m + 1)),
+    )
+
+pub returns : goal.returns
+returns c =
+    let s = c.before.before.before in
+    sym (clear-good _ _ s.requires.all_fixed
+    (λ i row. c.before.loop-m.invariant.1 i row.from (omega (arith, c.before.before.rows_of-n.ensures, row.upto, c.loop-m-test.false))))

@@ -1,0 +1,50 @@
+-- `judge::is_forbidden` meets its contract: so far no rule passed forbids the point. Assumes nothing.
+use mathlib.Core.Path.{◌≡◌, sym, ◌∙◌}
+use mathlib.Core.Bool.{false}
+use Prim.Native.Nat.{◌≤◌, ◌-◌}
+use native.Mathlib.Omega.{arith}
+use Rattle.integers.specs.Below.{any_below}
+use Rattle.integers.proofs.Below.{any-zero, any-true}
+use Rattle.sheet.specs.Layout.{rules}
+use Rattle.forbid.proofs.Regions.{none_more}
+use Rattle.placement.specs.Before.{rule_forbids_before, forbidden_before}
+use Rattle.placement.proofs.judge.is_forbidden.Goals as goal
+
+pub rules_of-n-requires : goal.rules_of-n-requires
+rules_of-n-requires c = c.requires.sheet.accepted.head
+
+pub loop-r-init : goal.loop-r-init
+loop-r-init c = (omega arith, any-zero _)
+
+pub rule_forbids-requires : goal.rule_forbids-requires
+rule_forbids-requires c =
+    let n = c.before.before in
+    (n.before.requires, omega (arith, n.rules_of-n.ensures, c.loop-r-test.true))
+
+pub returns-then-rule_forbids : goal.returns-then-rule_forbids
+unfolding forbidden_before
+returns-then-rule_forbids c =
+    let x = c.before in
+    let n = x.before.before.before in
+    let a = n.before.args in
+    sym (any-true (rule_forbids_before a.block.now a.table.now a.i.number a.s a.p) _
+    (omega (arith, n.rules_of-n.ensures, x.before.loop-r-test.true)) (sym x.rule_forbids.ensures ∙ c.if-rule_forbids.true))
+
+pub overflow_add-r : goal.overflow_add-r
+overflow_add-r c = omega arith
+
+pub loop-r-smaller : goal.loop-r-smaller
+loop-r-smaller c = omega arith
+
+pub loop-r-preserved : goal.loop-r-preserved
+loop-r-preserved c =
+    let x = c.before in
+    (omega arith, none_more _ x.before.before.loop-r.invariant.1 (sym x.rule_forbids.ensures ∙ c.if-rule_forbids.false))
+
+pub returns : goal.returns
+unfolding forbidden_before
+returns c =
+    let l = c.before in
+    let n = l.before in
+    let q : l.loop-r.r ≡ rules n.before.args.block.now = omega (arith, n.rules_of-n.ensures, c.loop-r-test.false) in
+    sym (rw q at l.loop-r.invariant.1)

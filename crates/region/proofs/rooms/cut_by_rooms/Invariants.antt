@@ -1,0 +1,20 @@
+-- `rooms::cut_by_rooms` meets its contract: so far the area is cut by each rule passed. Assumes nothing.
+use mathlib.Core.Path.{◌≡◌, refl, ◌∙◌}
+use Prim.Native.Nat.{◌≤◌, ◌-◌}
+use native.Mathlib.Omega.{arith}
+use lib.ListN.{length}
+use Rattle.integers.specs.Below.{all_below}
+use Rattle.sheet.specs.Layout.{axes, rules}
+use Rattle.sheet.specs.Allowed.{rooms_hold}
+use Rattle.points.specs.Area.{Cuts, area_of}
+use Rattle.region.specs.Rooms.{shape_contained, room_holds}
+use Rattle.points.proofs.Cut.{cuts-zero, cuts-more}
+use Rattle.region.proofs.rooms.cut_by_rooms.Given as goal
+
+abbrev pub invariant-loop-r : goal.invariant-loop-r
+invariant-loop-r l =
+    (l.r ≤ l.n) × (length l.ends ≡ length l.initial.ends) × Cuts (axes l.block) (area_of l.initial.ends) (area_of l.ends)
+    (λ p. all_below l.r (λ m. room_holds l.block l.i l.s m p))
+
+abbrev pub decreases-loop-r : goal.decreases-loop-r
+decreases-loop-r l = l.n - l.r

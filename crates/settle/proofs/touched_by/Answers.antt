@@ -1,0 +1,70 @@
+-- `settle::touched_by` meets its contract: a row below m that is not to be narrowed is spared by the rule. Assumes nothing.
+use mathlib.Core.Path.{◌≡◌, refl, sym, ap, ◌∙◌, subst}
+use mathlib.Core.Logic.{⊎_elim}
+use Prim.Native.Nat.{◌+◌, ◌-◌, ◌≤◌}
+use native.Mathlib.Omega.{arith}
+use lib.ListN.{length, length-set}
+use Rattle.integers.proofs.Booleans.{clash}
+use Rattle.sheet.specs.Layout.{rows_most}
+use Rattle.settle.specs.Todo.{Spared}
+use Rattle.settle.proofs.Turns.{todo-taken, Setting, setting-start, setting-stay, setting-put, setting-done}
+use Rattle.settle.proofs.touched_by.Goals as goal
+
+few : (s : goal.Start) → s.args.n ≤ rows_most
+few s = omega (arith, s.requires.0.count, s.requires.0.on.table.whole.few_rows)
+
+pub loop-m-init : goal.loop-m-init
+loop-m-init c = (omega arith, setting-start, refl)
+
+pub offset_bounds-due-m : goal.offset_bounds-due-m
+offset_bounds-due-m c = omega (arith, few c.before.before)
+
+pub slice_copy_out-t-12 : goal.slice_copy_out-t-12
+slice_copy_out-t-12 c = omega (arith, few c.before.before, c.before.before.requires.0.long)
+
+pub threatens-requires : goal.threatens-requires
+threatens-requires c =
+    let s = c.before.before.before.before in
+    (s.requires.0.on, s.requires.1, omega (arith, s.requires.0.count, c.before.before.loop-m-test.true))
+
+pub offset_bounds-due-m-then-threatens : goal.offset_bounds-due-m-then-threatens
+offset_bounds-due-m-then-threatens c = omega (arith, few c.before.before.before.before.before.before)
+
+pub slice_set_of-due : goal.slice_set_of-due
+slice_set_of-due c =
+    let s = c.before.before.before.before.before.before in
+    omega (arith, few s, s.requires.0.long)
+
+pub overflow_add-m : goal.overflow_add-m
+overflow_add-m c = omega (arith, few c.before.before.before.before)
+
+pub loop-m-smaller : goal.loop-m-smaller
+loop-m-smaller c = omega arith
+
+pub loop-m-preserved : goal.loop-m-preserved
+loop-m-preserved c =
+    let l = c.before.before.before in
+    let a = l.before.args in
+    let block = a.block.now in
+    let next = Setting a.due.now (Spared block a.table.now a.i.number a.r.number) (l.loop-m.m + 1) in
+    let long = l.loop-m.invariant.2 in
+    let now-set = l.loop-m.invariant.1 in (
+      omega arith,
+      ⊎_elim
+          (λ x. subst next (sym x.3) (setting-put now-set (omega (arith, long, l.before.requires.0.long, few l.before))))
+          (⊎_elim
+          (λ x. subst next (sym x.3) (setting-stay now-set (λ e kind names-i names. x.1.ensures x.2.left names)))
+          (λ x. subst next (sym x.1) (setting-stay now-set
+          (λ e. clash (todo-taken l.loop-m.due l.loop-m.m c.before.t12-1.given x.0.left) e))))
+          c.if-due-m-ne1.branch,
+      ⊎_elim
+          (λ x. ap length x.3 ∙ simp length-set long)
+          (⊎_elim (λ x. ap length x.3 ∙ long) (λ x. ap length x.1 ∙ long))
+          c.if-due-m-ne1.branch,
+    )
+
+pub shape_of-due : goal.shape_of-due
+shape_of-due c = c.before.loop-m.invariant.2
+
+pub returns : goal.returns
+returns c = setting-done c.before.loop-m.invariant.1 c.loop-m-test.false

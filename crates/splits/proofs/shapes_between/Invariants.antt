@@ -1,0 +1,19 @@
+-- `splits::shapes_between` meets its contract: so far the set has the shapes passed. Assumes nothing.
+use mathlib.Core.Path.{◌≡◌, sym, ap₂, ◌∙◌}
+use Prim.Native.Nat.{◌-◌, ◌≤◌}
+use native.Mathlib.Numerals.{add-one}
+use native.Mathlib.Omega.{arith}
+use lib.IntN.{ℤ}
+use mir.Facts.{to_z-of_z}
+use mir.Syntax.{w64}
+use mir.Val.{to_z}
+use Rattle.integers.specs.Bits.{set_of}
+use Rattle.integers.proofs.Sets.{set_of-zero}
+use Rattle.splits.specs.Splits.{is_between}
+use Rattle.splits.proofs.shapes_between.Given as goal
+
+abbrev pub invariant-loop-s : goal.invariant-loop-s
+invariant-loop-s l = (l.s ≤ 32) × (l.shapes ≡ set_of l.s (is_between l.set (to_z w64 l.from) (to_z w64 l.to)))
+
+abbrev pub decreases-loop-s : goal.decreases-loop-s
+decreases-loop-s l = 32 - l.s

@@ -1,0 +1,80 @@
+-- `jumped` lowers the jump point, word by word, to one past the last point of a region.
+-- Assumes nothing.
+use mathlib.Core.Path.{◌≡◌, refl, sym, ap₂, ◌∙◌}
+use Prim.Native.Nat.{◌-◌, ◌≤◌, ◌<◌}
+use native.Mathlib.Omega.{arith}
+use borrow.Author.Rules.{rules}
+use lib.ListN.{length}
+use mir.Facts.{to_z-of_z}
+use Rattle.integers.specs.Words.{word}
+use Rattle.integers.proofs.Machine.{bnd, num, ◌+ʷ◌, exact, fits_word}
+use Rattle.points.specs.Area.{coordinates, min_z}
+use Rattle.sweep.specs.Point.{nexts, lessers}
+use Rattle.sweep.specs.Moves.{jumped_past}
+use Rattle.sweep.proofs.Points.{near_fits, Made, made_none, made_more, made_word, made_all}
+use Rattle.sweep.proofs.Points.{length-nexts, word-nexts, length-lessers, word-lessers}
+use Rattle.sweep.proofs.Sweep.jumped.Goals as goal
+
+pub loop-e-init : goal.loop-e-init
+loop-e-init c =
+    let j : length c.args.self.jump ≡ coordinates = search rules in
+    let l : length c.args.last ≡ coordinates = search rules in
+    let m = length-lessers c.args.self.jump (nexts c.args.last) in
+    let n = length-nexts c.args.last in
+    (refl, refl, made_none (omega arith))
+
+pub offset_bounds-self-e : goal.offset_bounds-self-e
+offset_bounds-self-e c = omega arith
+
+pub bounds-self-e : goal.bounds-self-e
+bounds-self-e c = omega arith
+
+pub offset_bounds-last-e : goal.offset_bounds-last-e
+offset_bounds-last-e c = omega arith
+
+pub bounds-last-e : goal.bounds-last-e
+bounds-last-e c = omega arith
+
+pub overflow_add-last : goal.overflow_add-last
+overflow_add-last c = let b = c.before.before.before in near_fits (b.before.requires.near b.loop-e.e) _ tt
+
+pub lesser-requires : goal.lesser-requires
+lesser-requires c = tt
+
+pub offset_bounds-self-e-in-loop-e : goal.offset_bounds-self-e-in-loop-e
+offset_bounds-self-e-in-loop-e c = omega arith
+
+pub bounds-self-e-in-loop-e : goal.bounds-self-e-in-loop-e
+bounds-self-e-in-loop-e c = omega arith
+
+pub overflow_add-e : goal.overflow_add-e
+overflow_add-e c = omega arith
+
+pub loop-e-smaller : goal.loop-e-smaller
+loop-e-smaller c = omega arith
+
+pub loop-e-preserved : goal.loop-e-preserved
+loop-e-preserved c =
+    let b = c.before.before.before.before in
+    let jump = b.before.args.self.jump in
+    let last = b.before.args.last in
+    let e = b.loop-e.e in
+    let made = b.loop-e.invariant.2 in
+    let h : b.loop-e.e < length b.before.args.self.jump = search rules in
+    let g : b.loop-e.e < length b.before.args.last = search rules in
+    let now = to_z-of_z (fits_word (word b.loop-e.self.jump e) c.before.before.lesser-arg-1.given) in
+    let past = exact (bnd (b.before.requires.near e) +ʷ num 1) tt in (
+      b.loop-e.invariant.0,
+      b.loop-e.invariant.1,
+      made_more made h
+          (to_z-of_z (fits_word _ c.lesser.type_inv) ∙ c.lesser.ensures
+          ∙ ap₂ min_z (now ∙ made_word made h) (past ∙ sym (word-nexts last e g))
+          ∙ sym (word-lessers jump (nexts last) e h (omega (arith, length-nexts last, g)))),
+    )
+
+pub returns : goal.returns
+unfolding jumped_past
+returns c =
+    let l : length c.before.before.args.self.jump ≡ coordinates = search rules in
+    let h : length c.before.before.args.self.jump ≤ c.before.loop-e.e = omega arith in
+    rw (c.before.loop-e.invariant.0, c.before.loop-e.invariant.1, made_all c.before.loop-e.invariant.2 h)

@@ -1,0 +1,9 @@
+-- `text::refused` meets its contract. Assumes nothing.
+use mir.Facts.{to_z-of_z}
+use Rattle.text.specs.Answers.{refused_by}
+use borrow.Author.Rules.{rules}
+use Rattle.text.proofs.refused.Goals as goal
+
+pub returns : goal.returns
+unfolding refused_by
+returns c = rw (to_z-of_z c.before.before.ranges.refusal, c.before.block_zeros-b.ensures, c.table_zeros-t.ensures)

@@ -1,0 +1,14 @@
+-- `words::kind_of` meets its contract: the rule lies whole in the block. Assumes nothing.
+use mathlib.Core.Path.{◌∙◌}
+use native.Mathlib.Omega.{arith}
+use Rattle.sheet.specs.Layout.{kind}
+use Rattle.words.proofs.Ends.{rule-ends}
+use Rattle.words.proofs.Reading.{read_back}
+use Rattle.words.proofs.kind_of.Goals as goal
+
+pub word_at-requires : goal.word_at-requires
+word_at-requires c = omega (arith, rule-ends c.requires)
+
+pub returns : goal.returns
+unfolding kind
+returns c = read_back c.word_at.ensures c.word_at.type_inv ∙ rw c.before.requires.stands

@@ -1,0 +1,20 @@
+-- `words::offset_of` meets its contract: the box lies whole in the block. Assumes nothing.
+use mathlib.Core.Path.{◌∙◌}
+use native.Mathlib.Omega.{arith}
+use Rattle.sheet.specs.Layout.{offset}
+use Rattle.words.proofs.Ends.{box-ends}
+use Rattle.words.proofs.Reading.{read_back}
+use Rattle.words.proofs.offset_of.Goals as goal
+
+pub overflow_add-at : goal.overflow_add-at
+overflow_add-at c = omega (arith, box-ends c.requires.0)
+
+pub overflow_add-at-2 : goal.overflow_add-at-2
+overflow_add-at-2 c = omega (arith, box-ends c.requires.0)
+
+pub word_at-requires : goal.word_at-requires
+word_at-requires c = omega (arith, box-ends c.requires.0)
+
+pub returns : goal.returns
+unfolding offset
+returns c = read_back c.word_at.ensures c.word_at.type_inv ∙ rw c.before.requires.0.stands

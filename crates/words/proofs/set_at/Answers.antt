@@ -1,0 +1,12 @@
+-- `words::set_at` meets its contract: a word that is a set is cast whole. Assumes nothing.
+use Rattle.integers.specs.Words.{word}
+use Rattle.integers.proofs.Machine.{cast_ok}
+use Rattle.words.proofs.Reading.{cast-nat}
+use borrow.Author.Rules.{rules}
+use Rattle.words.proofs.set_at.Goals as goal
+
+pub overflow_cast-result : goal.overflow_cast-result
+overflow_cast-result c = cast_ok c.before.requires.1.from c.before.requires.1.upto tt tt
+
+pub returns : goal.returns
+returns c = cast-nat (word c.before.args.words.now c.before.args.at) c.w-1.given c.before.requires.1

@@ -39,24 +39,24 @@ After-most-most = lts.After-most tie.the-claims reads.Pre reads.Post
 abbrev After-draw : Type 0
 After-draw = lts.After-draw tie.the-claims reads.Pre reads.Post
 
-told : (c : After-dim_refusal-g) → let a = c.before.args in
+told : (c : After-dim_refusal-g) → let a = c.args in
     c.dim_refusal-g.result ≡ pos (refusal_dim a.block.now a.table.now a.row a.shape a.dimension)
 told c =
     c.dim_refusal-g.ensures
-    ∙ ap pos (ap₃ (refusal_dim _ _) (to_z-of_z c.before.ranges.row) (to_z-of_z c.before.ranges.shape) (to_z-of_z c.before.ranges.dimension))
+    ∙ ap pos (ap₃ (refusal_dim _ _) (to_z-of_z c.ranges.row) (to_z-of_z c.ranges.shape) (to_z-of_z c.ranges.dimension))
 
 module _ (e : goal.Else-g-gt0) where
   abbrev top : Start
   top = e.before.before
 
   abbrev block : List ℤ
-  block = e.before.before.args.block.now
+  block = e.args.block.now
 
   abbrev t : List ℤ
-  t = e.before.before.args.table.now
+  t = e.args.table.now
 
   no-refusal : refusal_dim block t top.args.row top.args.shape top.args.dimension ≡ 0
-  no-refusal = accepted (told e.before) e.before.dim_refusal-g.type_inv e.if-g-gt0.false
+  no-refusal = accepted (told e.before) e.dim_refusal-g.type_inv e.if-g-gt0.false
 
   asks : DimAsked block t top.args.row top.args.shape top.args.dimension
   asks = dim-asked block t top.args.row top.args.shape top.args.dimension no-refusal
@@ -72,7 +72,7 @@ module _ (e : goal.Else-g-gt0) where
 
 pub returns-then-g-gt0 : goal.returns-then-g-gt0
 returns-then-g-gt0 c =
-    let g = c.before.dim_refusal-g in
+    let g = c.dim_refusal-g in
     ap B.Refused (read_back (told c.before) g.type_inv) ∙ sym (answer-refused _ (refused (told c.before) g.type_inv c.if-g-gt0.true))
 
 pub overflow_cast-row : goal.overflow_cast-row
@@ -134,19 +134,18 @@ module _ (c : After-most-most) where
 
 pub most-most-requires : goal.most-most-requires
 most-most-requires c =
-    let d = c.before in
-    let e = d.before.before.before in
+    let e = c.before.before.before.before in
     let a = (asks e).shape_of.accepted in
-    (accepted-head (block e) (t e) a, accepted-rows (block e) (t e) a, d.draw.ensures.rules.count)
+    (accepted-head (block e) (t e) a, accepted-rows (block e) (t e) a, c.draw.ensures.rules.count)
 
 pub bound_in-requires : goal.bound_in-requires
 bound_in-requires c = let m = c.before.before.before in (subject m, below m)
 
 pub returns-then-most-le-FEW : goal.returns-then-most-le-FEW
-returns-then-most-le-FEW c = answered c.before.before.before.before.before c.before.bound_in.ensures
+returns-then-most-le-FEW c = answered c.before.before.before.before.before c.bound_in.ensures
 
 pub bound_in-requires-2 : goal.bound_in-requires-2
 bound_in-requires-2 c = let m = c.before.before.before in (subject m, below m)
 
 pub returns : goal.returns
-returns c = answered c.before.before.before.before.before c.before.bound_in-2.ensures
+returns c = answered c.before.before.before.before.before c.bound_in-2.ensures

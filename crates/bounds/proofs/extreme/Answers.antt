@@ -51,13 +51,11 @@ found_none = refl
 
 pub returns-then-not-holds : goal.returns-then-not-holds
 returns-then-not-holds c =
-    let cut = c.before.before.before in
-    let s = cut.before.before in
     found_none
-    ∙ cut-empty s.args.block.now s.args.table.now s.args.i.number s.args.s cut.cut_box-cut.result cut.cut_box-cut.ensures
-    s.args.flip s.args.d s.requires.1
-    (ap (λ (n : ℕ). in_area n cut.cut_box-cut.result cut.cut_box-cut.result.low) (sym cut.before.axes_of-k.ensures)
-    ∙ sym c.before.holds.ensures ∙ not-true _ c.if-not-holds.true-raw)
+    ∙ cut-empty c.args.block.now c.args.table.now c.args.i.number c.args.s c.cut_box-cut.result c.cut_box-cut.ensures
+    c.args.flip c.args.d c.requires.1
+    (ap (λ (n : ℕ). in_area n c.cut_box-cut.result c.cut_box-cut.result.low) (sym c.axes_of-k.ensures)
+    ∙ sym c.holds.ensures ∙ not-true _ c.if-not-holds.true-raw)
 
 -- of the same row and shape
 subject-of : {block t o : List ℤ} {i j : Place} {s u : ℕ} → j ≡ i → u ≡ s → Subject block t o i s → Subject block t o j u
@@ -77,9 +75,8 @@ module _ (c : After-gather-nearby) where
 
   filled : in_area (axes begin.args.block.now) box.cut_box-cut.result box.cut_box-cut.result.low ≡ true
   filled =
-      let e = c.before.before.before in
-      ap (λ (n : ℕ). in_area n box.cut_box-cut.result box.cut_box-cut.result.low) (sym box.before.axes_of-k.ensures)
-      ∙ sym e.before.holds.ensures ∙ not-false _ e.if-not-holds.false-raw
+      ap (λ (n : ℕ). in_area n box.cut_box-cut.result box.cut_box-cut.result.low) (sym box.axes_of-k.ensures)
+      ∙ sym c.holds.ensures ∙ not-false _ c.if-not-holds.false-raw
 
   subject : Subject begin.args.block.now begin.args.table.now begin.args.outline.now
       c.gather-nearby.result.i c.gather-nearby.result.s
@@ -93,7 +90,7 @@ module _ (c : After-gather-nearby) where
 
 pub search-x-requires : goal.search-x-requires
 search-x-requires c =
-    let g = c.before.before.before in
+    let g = c.before.before in
     record {
       subject = subject g;
       listed = g.gather-nearby.ensures.0;
@@ -106,10 +103,10 @@ search-x-requires c =
 -- what the search came to is the extreme of the allowed points
 module _ (c : After-search-x) where
   abbrev g : After-gather-nearby
-  g = c.before.before.before.before
+  g = c.before.before.before
 
   abbrev s : Start
-  s = c.before.before.before.before.before.before.before.before.before.before.before.before
+  s = c.before.before.before.before.before.before.before.before.before.before.before
 
   sighted : Sighted s.args.flip s.args.block.now s.args.table.now s.args.i.number s.args.s (box g).cut_box-cut.result
       s.args.d c.search-x.result
@@ -134,11 +131,10 @@ bounds-point-d c = coordinate-in c.before.before
 
 pub returns-then-found : goal.returns-then-found
 returns-then-found c =
-    let b = c.before.before in
-    let z = word b.before.search-x.result.point (s b.before).args.d in
+    let z = word c.search-x.result.point (s c.before.before.before).args.d in
     ap (λ (y : ℤ). coordinate (At y)) (to_z-of_z (fits_word z c.result-1.given))
     ∙ found_at z
-    ∙ allowed-extreme b.before (some z) (sighted-there (sighted b.before) b.if-found.true)
+    ∙ allowed-extreme c.before.before.before (some z) (sighted-there (sighted c.before.before.before) c.if-found.true)
 
 pub returns : goal.returns
 returns c = found_none ∙ allowed-extreme c.before none (sighted-nowhere (sighted c.before) c.if-found.false)

@@ -14,8 +14,8 @@ use Rattle.bounds.proofs.greatest.Goals as goal
 pub returns : goal.returns
 unfolding extreme_of
 returns c =
-    let a = c.before.args in
-    let f = c.before.ranges in
+    let a = c.args in
+    let f = c.ranges in
     c.bound.ensures
     ∙ ap₃ (λ (r s d : ℤ). bound_answer (refusal_dim a.block.now a.table.now r s d)
     (extreme_of true a.block.now a.table.now (nat r) (nat s) (nat d)))

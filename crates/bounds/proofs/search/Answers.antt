@@ -39,19 +39,19 @@ module _ (c : goal.After-turned_end-end) where
   entry = c.before.before.before.before.before
 
   abbrev block : List ℤ
-  block = c.before.before.before.before.before.args.block.now
+  block = c.args.block.now
 
   abbrev rows : List ℤ
-  rows = c.before.before.before.before.before.args.table.now
+  rows = c.args.table.now
 
   abbrev row : ℕ
-  row = c.before.before.before.before.before.args.nearby.i.number
+  row = c.args.nearby.i.number
 
   abbrev shape : ℕ
-  shape = c.before.before.before.before.before.args.nearby.s
+  shape = c.args.nearby.s
 
   abbrev first : List ℤ
-  first = c.before.turned_end-first.result
+  first = c.turned_end-first.result
 
   abbrev end : List ℤ
   end = c.turned_end-end.result
@@ -62,25 +62,25 @@ module _ (c : goal.After-turned_end-end) where
     below = entry.requires.below;
     small = entry.requires.small;
     filled = entry.requires.filled;
-    turns = record { start = c.before.turned_end-first.ensures; end = c.turned_end-end.ensures };
+    turns = record { start = c.turned_end-first.ensures; end = c.turned_end-end.ensures };
     first_long = search rules;
     end_long = search rules;
   }
 
   abbrev k : ℕ
-  k = c.before.before.before.before.axes_of-k.result
+  k = c.axes_of-k.result
 
   k-is : k ≡ axes block
-  k-is = c.before.before.before.before.axes_of-k.ensures
+  k-is = c.axes_of-k.ensures
 
 pub axes_of-k-requires : goal.axes_of-k-requires
 axes_of-k-requires c = c.requires.subject.accepted.head
 
 pub turned_end-first-requires : goal.turned_end-first-requires
-turned_end-first-requires c = near-high c.before.before.before.requires.small
+turned_end-first-requires c = near-high c.requires.small
 
 pub turned_end-end-requires : goal.turned_end-end-requires
-turned_end-end-requires c = near-low c.before.before.before.before.requires.small
+turned_end-end-requires c = near-low c.requires.small
 
 pub new-w-requires : goal.new-w-requires
 new-w-requires c = task-end-near (task c)
@@ -103,9 +103,8 @@ module _ (c : After-turned_point-p) where
 
 pub turned_point-p-requires : goal.turned_point-p-requires
 turned_point-p-requires c =
-    let l = c.before in
-    let b = l.before.before in
-    swept-near (task b) (rows b) (row b) (shape b) l.loop-nearby.invariant.0 l.loop-nearby.invariant.1
+    let b = c.before.before.before in
+    swept-near (task b) (rows b) (row b) (shape b) c.loop-nearby.invariant.0 c.loop-nearby.invariant.1
 
 pub region_at-x-requires : goal.region_at-x-requires
 region_at-x-requires c =
@@ -126,8 +125,8 @@ returns-then-not-hit c =
     let p = c.before.before.before in
     let b = ends p in (
       swept-found (task b) (rows b) (row b) (shape b) (loop p).loop-nearby.invariant.0 p.turned_point-p.ensures (loop p).loop-nearby.invariant.1
-          (sym c.before.region_at-x.ensures.0.hit ∙ not-true _ c.if-not-hit.true-raw),
-      c.before.region_at-x.ensures.1,
+          (sym c.region_at-x.ensures.0.hit ∙ not-true _ c.if-not-hit.true-raw),
+      c.region_at-x.ensures.1,
     )
 
 -- ---- a region around the point, all of which is forbidden
@@ -136,14 +135,14 @@ module _ (c : goal.After-turned_end-last) where
   met = c.before.before.before.before.before
 
   hit : met.region_at-x.result.hit ≡ true
-  hit = not-false _ c.before.before.before.before.if-not-hit.false-raw
+  hit = not-false _ c.if-not-hit.false-raw
 
   last-ends : c.turned_end-last.result
       ≡ turned_end (entry (ends met.before.before)).args.flip met.region_at-x.result.area.low met.region_at-x.result.area.high
   last-ends = c.turned_end-last.ensures
 
 pub turned_end-last-requires : goal.turned_end-last-requires
-turned_end-last-requires c = near-low c.before.before.before.before.region_at-x.ensures.0.small
+turned_end-last-requires c = near-low c.region_at-x.ensures.0.small
 
 pub jumped-w-requires : goal.jumped-w-requires
 jumped-w-requires c =
@@ -165,13 +164,13 @@ module _ (c : After-advanced-w) where
   b = c.before.before.before.before.before.before.before.before.before.before.before.before.before
 
   abbrev w : Sweep
-  w = c.before.before.before.before.before.before.before.before.before.before.before.loop-nearby.w
+  w = c.loop-nearby.w
 
   moves : c.advanced-w.result
       ≡ advance (rotation (axes (block b)) (entry b).args.d) (first b) (end b) (axes (block b)) (jumped_past w region.turned_end-last.result)
   moves =
       c.advanced-w.ensures
-      ∙ ap (advance (rotation (k b) (entry b).args.d) (first b) (end b) (k b)) c.before.jumped-w.ensures
+      ∙ ap (advance (rotation (k b) (entry b).args.d) (first b) (end b) (k b)) c.jumped-w.ensures
       ∙ ap (λ (n : ℕ). advance (rotation n (entry b).args.d) (first b) (end b) n (jumped_past w region.turned_end-last.result)) (k-is b)
 
   encounter : Encounter (block b) (rows b) (row b) (shape b) (entry b).args.d (entry b).args.flip (first b) (end b) w

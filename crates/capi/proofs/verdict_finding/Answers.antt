@@ -17,6 +17,6 @@ returns-in-NotGood c = rw c.enum_told-in-NotGood-1.given.1
 pub returns-in-Refused : goal.returns-in-Refused
 unfolding verdict_finding
 returns-in-Refused c =
-    let told = c.before.x-1.given in
+    let told = c.x-1.given in
     let f : SFits w64 told.0.0 = search rules in
     rw told.1 (to_z-of_z f)

@@ -6,4 +6,4 @@ use borrow.Author.Rules.{rules}
 use Rattle.capi.proofs.zk_check_placement.Goals as goal
 
 pub returns : goal.returns
-returns c = read_back (c.verdict_finding.ensures ∙ ap verdict_finding c.before.check_placement.ensures) c.verdict_finding.type_inv
+returns c = read_back (c.verdict_finding.ensures ∙ ap verdict_finding c.check_placement.ensures) c.verdict_finding.type_inv

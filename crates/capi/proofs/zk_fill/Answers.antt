@@ -7,4 +7,4 @@ use Rattle.capi.proofs.zk_fill.Goals as goal
 
 pub returns : goal.returns
 returns c =
-    c.share_finding.ensures ∙ ap share_finding (simp (to_z-of_z c.before.before.ranges.rule) at c.before.fill.ensures)
+    c.share_finding.ensures ∙ ap share_finding (simp (to_z-of_z c.ranges.rule) at c.fill.ensures)

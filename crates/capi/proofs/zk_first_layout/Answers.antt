@@ -7,5 +7,5 @@ use Rattle.capi.proofs.zk_first_layout.Goals as goal
 
 pub returns : goal.returns
 returns c =
-    let e = c.before.before.first_layout.ensures in
+    let e = c.first_layout.ensures in
     (read_back (c.layout_finding.ensures ∙ ap layout_finding e.0) c.layout_finding.type_inv, e.1)

@@ -7,6 +7,6 @@ use Rattle.capi.proofs.zk_least.Goals as goal
 
 pub returns : goal.returns
 returns c =
-    let f = c.before.before.ranges in
+    let f = c.ranges in
     c.bound_finding.ensures
-    ∙ ap bound_finding (simp (to_z-of_z f.row, to_z-of_z f.shape, to_z-of_z f.dimension) at c.before.least.ensures)
+    ∙ ap bound_finding (simp (to_z-of_z f.row, to_z-of_z f.shape, to_z-of_z f.dimension) at c.least.ensures)

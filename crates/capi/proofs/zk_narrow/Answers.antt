@@ -8,6 +8,5 @@ use Rattle.capi.proofs.zk_narrow.Goals as goal
 
 pub returns : goal.returns
 returns c =
-    let n = c.before.before in
-    let e = simp (to_z-of_z n.before.before.ranges.row) at n.narrow.ensures in
+    let e = simp (to_z-of_z c.ranges.row) at c.narrow.ensures in
     (read_back (c.narrow_finding.ensures ∙ ap narrow_finding e.0) c.narrow_finding.type_inv, e.1)

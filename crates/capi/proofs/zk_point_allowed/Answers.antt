@@ -8,7 +8,7 @@ use Rattle.capi.proofs.zk_point_allowed.Goals as goal
 
 pub returns : goal.returns
 returns c =
-    let f = c.before.before.ranges in
+    let f = c.ranges in
     let e = simp (to_z-of_z f.row, to_z-of_z f.shape, to_z-of_z f.p0, to_z-of_z f.p1, to_z-of_z f.p2, to_z-of_z f.p3)
-    at c.before.point_allowed.ensures in
+    at c.point_allowed.ensures in
     read_back (c.point_finding.ensures ∙ ap point_finding e) c.point_finding.type_inv

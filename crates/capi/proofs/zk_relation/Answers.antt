@@ -7,6 +7,6 @@ use Rattle.capi.proofs.zk_relation.Goals as goal
 
 pub returns : goal.returns
 returns c =
-    let f = c.before.before.ranges in
+    let f = c.ranges in
     c.standing_finding.ensures
-    ∙ ap standing_finding (simp (to_z-of_z f.row, to_z-of_z f.other, to_z-of_z f.dimension) at c.before.relation.ensures)
+    ∙ ap standing_finding (simp (to_z-of_z f.row, to_z-of_z f.other, to_z-of_z f.dimension) at c.relation.ensures)

@@ -5,4 +5,4 @@ use Rattle.words.proofs.Reading.{read_back}
 use Rattle.capi.proofs.zk_row_refusal.Goals as goal
 
 pub returns : goal.returns
-returns c = read_back (simp (to_z-of_z c.before.ranges.row) at c.row_refusal.ensures) c.row_refusal.type_inv
+returns c = read_back (simp (to_z-of_z c.ranges.row) at c.row_refusal.ensures) c.row_refusal.type_inv

@@ -29,13 +29,13 @@ IsSpan s r = let a = s.args in
 
 module _ (c : After-row_span-span) where
   span : IsSpan c.before c.row_span-span.result
-  span = simp (to_z-of_z c.before.ranges.row) at c.row_span-span.ensures
+  span = simp (to_z-of_z c.ranges.row) at c.row_span-span.ensures
 
-  inside : c.row_span-span.result.start + c.row_span-span.result.length ≤ length c.before.args.table.now
-  inside = let a = c.before.args in omega (arith, span.0, span.1, slice-ends a.block.now a.table.now a.row)
+  inside : c.row_span-span.result.start + c.row_span-span.result.length ≤ length c.args.table.now
+  inside = let a = c.args in omega (arith, span.0, span.1, slice-ends a.block.now a.table.now a.row)
 
   small : c.row_span-span.result.start + c.row_span-span.result.length < 2 ^ 63
-  small = omega (arith, inside, c.before.well_formed)
+  small = omega (arith, inside, c.well_formed)
 
 pub overflow_cast-result : goal.overflow_cast-result
 overflow_cast-result c = let l = small c.before in fits_word _ (omega (arith, l))

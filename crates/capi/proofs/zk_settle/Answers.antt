@@ -7,5 +7,5 @@ use Rattle.capi.proofs.zk_settle.Goals as goal
 
 pub returns : goal.returns
 returns c =
-    let e = c.before.before.settle.ensures in
+    let e = c.settle.ensures in
     (read_back (c.settle_finding.ensures ∙ ap settle_finding e.0) c.settle_finding.type_inv, e.1)

@@ -52,16 +52,16 @@ module _ (e : goal.Else-g-gt0) where
   top = e.before.before
 
   abbrev block : List ℤ
-  block = e.before.before.args.block.now
+  block = e.args.block.now
 
   abbrev t : List ℤ
-  t = e.before.before.args.table.now
+  t = e.args.table.now
 
   abbrev rule : ℤ
-  rule = e.before.before.args.rule
+  rule = e.args.rule
 
   none : refusal_placement block t ≡ 0
-  none = accepted e.before.placement_refusal-g.ensures e.before.placement_refusal-g.type_inv e.if-g-gt0.false
+  none = accepted e.placement_refusal-g.ensures e.placement_refusal-g.type_inv e.if-g-gt0.false
 
 -- the answer to check 13, of the word itself
 rule_told : (c : After-no_fill_rule) → let e = c.before in c.no_fill_rule.result ≡ no_fill_rule (block e) (rule e)
@@ -88,7 +88,7 @@ module _ (e : goal.Else-no_fill_rule) where
 
 pub returns-then-g-gt0 : goal.returns-then-g-gt0
 returns-then-g-gt0 c =
-    let g = c.before.placement_refusal-g in
+    let g = c.placement_refusal-g in
     ap F.Refused (read_back g.ensures g.type_inv) ∙ answer-placement _ _ _ (refused g.ensures g.type_inv c.if-g-gt0.true)
 
 pub no_fill_rule-requires : goal.no_fill_rule-requires
@@ -139,7 +139,7 @@ module _ (e : Else-n-eq0) where
   abbrev second : goal.Else-no_fill_rule
   second = e.before.before.before
 
-  cells : let b = block (first second) in let r = rule_asked (rule (first second)) in let n = e.before.cells_of-n.result in
+  cells : let b = block (first second) in let r = rule_asked (rule (first second)) in let n = e.cells_of-n.result in
       (bad_cells b r ≡ false) × (n ≡ room_cells b r) × (1 ≤ n) × (n ≤ 4096)
   cells = found_some (block (first second)) (rule_asked (rule (first second))) (cells_told e.before) e.if-n-eq0.false
 
@@ -148,12 +148,11 @@ draw-requires c = accepted-block _ _ (checked _ _ (none (first (second c.before)
 
 pub all_good-requires : goal.all_good-requires
 all_good-requires c =
-    let d = c.before in
-    let w = checked _ _ (none (first (second d.before.before))) in
+    let w = checked _ _ (none (first (second c.before.before.before))) in
     record {
       accepted = accepted-block _ _ w.0;
       table = accepted-table _ _ w.0;
-      outline = d.draw.ensures;
+      outline = c.draw.ensures;
       all_fixed = w.1;
     }
 
@@ -161,7 +160,7 @@ pub returns-then-not-all_good : goal.returns-then-not-all_good
 returns-then-not-all_good c =
     let e = c.before.before.before.before.before in
     let s = second e in
-    answer-15 _ _ _ (none (first s)) (rule-in s) (cells e).0 (sym c.before.all_good.ensures ∙ not-true c.if-not-all_good.true-raw)
+    answer-15 _ _ _ (none (first s)) (rule-in s) (cells e).0 (sym c.all_good.ensures ∙ not-true c.if-not-all_good.true-raw)
 
 -- ---- 15 does not apply
 module _ (e : Else-not-all_good) where
@@ -169,7 +168,7 @@ module _ (e : Else-not-all_good) where
   third = e.before.before.before.before.before
 
   all-good : good (block (first (second third))) (t (first (second third))) ≡ true
-  all-good = sym e.before.all_good.ensures ∙ not-false e.if-not-all_good.false-raw
+  all-good = sym e.all_good.ensures ∙ not-false e.if-not-all_good.false-raw
 
 pub covered_cells-c-requires : goal.covered_cells-c-requires
 covered_cells-c-requires c =
@@ -187,7 +186,7 @@ covered_cells-c-requires c =
         some_cells = rw (← n) w.2;
         few_cells = rw (← n) w.3;
       },
-      g.before.before.before.draw.ensures,
+      g.draw.ensures,
       n,
     )
 

@@ -19,18 +19,15 @@ loop-r-init c = (omega arith, any-zero _)
 
 pub rule_region-x-requires : goal.rule_region-x-requires
 rule_region-x-requires c =
-    let n = c.before.before in
-    let w = n.before.requires in
-    (w.0, w.1, omega (arith, n.rules_of-n.ensures, c.loop-r-test.true))
+    let w = c.requires in
+    (w.0, w.1, omega (arith, c.rules_of-n.ensures, c.loop-r-test.true))
 
 pub returns-then-hit : goal.returns-then-hit
 unfolding forbidden rule_forbids rows_forbid
 returns-then-hit c =
-    let x = c.before in
-    let n = x.before.before.before in
-    let a = n.before.args in
+    let a = c.args in
     forbids-any (rule_forbids a.block.now a.table.now a.i.number a.s)
-    (omega (arith, n.rules_of-n.ensures, x.before.loop-r-test.true)) c.if-hit.true x.rule_region-x.ensures
+    (omega (arith, c.rules_of-n.ensures, c.loop-r-test.true)) c.if-hit.true c.rule_region-x.ensures
 
 pub overflow_add-r : goal.overflow_add-r
 overflow_add-r c = omega arith
@@ -39,7 +36,7 @@ pub loop-r-smaller : goal.loop-r-smaller
 loop-r-smaller c = omega arith
 
 pub loop-r-preserved : goal.loop-r-preserved
-loop-r-preserved c = (omega arith, none_more _ c.before.before.before.loop-r.invariant.1 (miss c.before.rule_region-x.ensures c.if-hit.false))
+loop-r-preserved c = (omega arith, none_more _ c.loop-r.invariant.1 (miss c.rule_region-x.ensures c.if-hit.false))
 
 pub none-requires : goal.none-requires
 none-requires c = tt
@@ -47,7 +44,5 @@ none-requires c = tt
 pub returns : goal.returns
 unfolding forbidden rule_forbids rows_forbid
 returns c =
-    let l = c.before.before in
-    let n = l.before in
-    let q : l.loop-r.r ≡ rules n.before.args.block.now = omega (arith, n.rules_of-n.ensures, c.before.loop-r-test.false) in
-    missed (rw q at l.loop-r.invariant.1) c.none.ensures
+    let q : c.loop-r.r ≡ rules c.args.block.now = omega (arith, c.rules_of-n.ensures, c.loop-r-test.false) in
+    missed (rw q at c.loop-r.invariant.1) c.none.ensures

@@ -11,7 +11,7 @@ rule_place-rule-requires c = (c.requires.0.accepted.head, c.requires.2)
 
 pub is_non_overlap_of-requires : goal.is_non_overlap_of-requires
 is_non_overlap_of-requires c =
-    let w = c.before.requires in
+    let w = c.requires in
     (w.0.accepted, c.rule_place-rule.ensures.0, row-bit w.1)
 
 pub none-requires : goal.none-requires
@@ -20,15 +20,13 @@ none-requires c = tt
 pub returns-then-not-is_non_overlap_of : goal.returns-then-not-is_non_overlap_of
 unfolding rule_forbids
 returns-then-not-is_non_overlap_of c =
-    let n = c.before.before in
-    missed (rw (← n.before.rule_place-rule.ensures.1, sym n.is_non_overlap_of.ensures ∙ not-true c.before.if-not-is_non_overlap_of.true-raw)) c.none.ensures
+    missed (rw (← c.rule_place-rule.ensures.1, sym c.is_non_overlap_of.ensures ∙ not-true c.if-not-is_non_overlap_of.true-raw)) c.none.ensures
 
 pub rows_region-requires : goal.rows_region-requires
-rows_region-requires c = let r = c.before.before in (r.before.requires.0, r.rule_place-rule.ensures.0)
+rows_region-requires c = (c.requires.0, c.rule_place-rule.ensures.0)
 
 pub returns : goal.returns
 unfolding rule_forbids
 returns c =
-    let n = c.before.before in
-    rw (← n.before.rule_place-rule.ensures.1)
-    (forbids-and (sym n.is_non_overlap_of.ensures ∙ not-false c.before.if-not-is_non_overlap_of.false-raw) c.rows_region.ensures)
+    rw (← c.rule_place-rule.ensures.1)
+    (forbids-and (sym c.is_non_overlap_of.ensures ∙ not-false c.if-not-is_non_overlap_of.false-raw) c.rows_region.ensures)

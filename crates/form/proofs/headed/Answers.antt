@@ -8,8 +8,5 @@ use Rattle.form.proofs.headed.Goals as goal
 pub returns : goal.returns
 unfolding placed parsed_of
 returns c =
-    let table-zeros = c.before.before.before in
-    let block-zeros = table-zeros.before in
-    let start = block-zeros.before in
-    let put = simp (to_z-of_z start.ranges.k, block-zeros.block_zeros-b.ensures) at c.before.put_word.ensures in
-    rw (put, table-zeros.table_zeros-t.ensures)
+    let put = simp (to_z-of_z c.ranges.k, c.block_zeros-b.ensures) at c.put_word.ensures in
+    rw (put, c.table_zeros-t.ensures)

@@ -10,18 +10,18 @@ use Rattle.form.proofs.Texts.{k-low, k-high, k-is, k-small}
 use Rattle.form.proofs.k_of.Goals as goal
 
 pub returns-then-w-lt1 : goal.returns-then-w-lt1
-returns-then-w-lt1 c = sym (k-low _ (simp (to_z-of_z c.before.ranges.w) at c.if-w-lt1.true))
+returns-then-w-lt1 c = sym (k-low _ (simp (to_z-of_z c.ranges.w) at c.if-w-lt1.true))
 
 pub returns-then-w-gt4 : goal.returns-then-w-gt4
-returns-then-w-gt4 c = sym (k-high _ (simp (to_z-of_z c.before.before.ranges.w) at c.if-w-gt4.true))
+returns-then-w-gt4 c = sym (k-high _ (simp (to_z-of_z c.ranges.w) at c.if-w-gt4.true))
 
-is-k : (c : goal.Else-w-gt4) → to_z w64 (of_z w64 c.before.before.args.w) ≡ pos (k_of c.before.before.args.w)
+is-k : (c : goal.Else-w-gt4) → to_z w64 (of_z w64 c.args.w) ≡ pos (k_of c.args.w)
 is-k c =
-    let f = to_z-of_z c.before.before.ranges.w in
-    f ∙ k-is _ (simp f at c.before.if-w-lt1.false) (simp f at c.if-w-gt4.false)
+    let f = to_z-of_z c.ranges.w in
+    f ∙ k-is _ (simp f at c.if-w-lt1.false) (simp f at c.if-w-gt4.false)
 
 pub overflow_cast-result : goal.overflow_cast-result
-overflow_cast-result c = rw (is-k c) (tt, (let h = k-small c.before.before.args.w in omega arith))
+overflow_cast-result c = rw (is-k c) (tt, (let h = k-small c.args.w in omega arith))
 
 pub returns : goal.returns
 returns c = rw (is-k c)

@@ -6,6 +6,5 @@ use Rattle.form.proofs.put_counts.Goals as goal
 
 pub returns : goal.returns
 returns c =
-    let start = c.before.before.before.before.before.before.before.before.before in
-    let pre = start.requires in
-    cc (word-is {v = start.args.k} (omega arith), word-is {v = start.args.boxes} (omega arith), word-is {v = start.args.rules} (omega arith))
+    let pre = c.requires in
+    cc (word-is {v = c.args.k} (omega arith), word-is {v = c.args.boxes} (omega arith), word-is {v = c.args.rules} (omega arith))

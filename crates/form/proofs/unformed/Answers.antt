@@ -5,4 +5,4 @@ use Rattle.form.proofs.unformed.Goals as goal
 
 pub returns : goal.returns
 unfolding parsed_of
-returns c = rw (c.before.block_zeros-b.ensures, c.table_zeros-t.ensures)
+returns c = rw (c.block_zeros-b.ensures, c.table_zeros-t.ensures)

@@ -20,35 +20,32 @@ Else-g-gt0 = lts.Else1 tie.the-claims reads.Pre reads.Post
 
 pub returns-then-g-gt0 : goal.returns-then-g-gt0
 returns-then-g-gt0 c =
-    let d = c.before in
-    let a = d.before.before.args in
+    let a = c.args in
     let w = answer-refused a.table.now (first_layout_of a.block.now a.table.now)
-    (refused d.refusal-g.ensures d.refusal-g.type_inv c.if-g-gt0.true) in
-    (ap Refused (read_back d.refusal-g.ensures d.refusal-g.type_inv) ∙ w.0, w.1)
+    (refused c.refusal-g.ensures c.refusal-g.type_inv c.if-g-gt0.true) in
+    (ap Refused (read_back c.refusal-g.ensures c.refusal-g.type_inv) ∙ w.0, w.1)
 
 -- nothing is refused
 module _ (e : Else-g-gt0) where
   abbrev block : List ℤ
-  block = e.before.before.before.args.block.now
+  block = e.args.block.now
 
   abbrev t : List ℤ
-  t = e.before.before.before.args.table.now
+  t = e.args.table.now
 
   passed : refusal_layout block t ≡ 0
-  passed = accepted e.before.refusal-g.ensures e.before.refusal-g.type_inv e.if-g-gt0.false
+  passed = accepted e.refusal-g.ensures e.refusal-g.type_inv e.if-g-gt0.false
 
 pub first_of-requires : goal.first_of-requires
 first_of-requires c = is-small (block c.before) (t c.before) (passed c.before)
 
 pub returns-then-first_of : goal.returns-then-first_of
 returns-then-first_of c =
-    let w = c.before.before in
-    let e = w.before.before in
-    answer-some (block e) (t e) (passed e) (w.first_of.ensures.yes c.if-first_of.true)
+    let e = c.before.before.before.before in
+    answer-some (block e) (t e) (passed e) (c.first_of.ensures.yes c.if-first_of.true)
 
 pub returns-else-first_of : goal.returns-else-first_of
 returns-else-first_of c =
-    let w = c.before.before in
-    let e = w.before.before in
-    let f = w.first_of.ensures in
+    let e = c.before.before.before.before in
+    let f = c.first_of.ensures in
     subst (Promise (block e) (t e) Nothing) (sym (f.same c.if-first_of.false)) (answer-none (block e) (t e) (passed e) (f.no c.if-first_of.false))

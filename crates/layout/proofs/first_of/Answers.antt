@@ -39,12 +39,12 @@ pub slice_bounds-copy-end : goal.slice_bounds-copy-end
 slice_bounds-copy-end c = sym (length-take-le _ (replicate layout_table_most (pos 0)) (short c.before))
 
 pub copy-requires : goal.copy-requires
-copy-requires c = length-take-le _ (replicate layout_table_most (pos 0)) (short c.before.before)
+copy-requires c = length-take-le _ (replicate layout_table_most (pos 0)) (short c.before)
 
 -- the copy, at the start of the array
 module _ (c : After-copy) where
   abbrev s : goal.Start
-  s = c.before.before.before
+  s = c.before.before
 
   abbrev block : List ℤ
   block = s.args.block.now
@@ -105,21 +105,21 @@ module _ (c : goal.Else-not-place) where
       whole (outcome p) (array (a p)) (length (t (a p))) placed.inside.as_long (omega (arith, short (s (a p)), all (a p))) ∙ all (a p)
 
 pub slice_bounds-best-end-3 : goal.slice_bounds-best-end-3
-slice_bounds-best-end-3 c = let e = c.before in omega (arith, second-all e, short (s (a (p e))))
+slice_bounds-best-end-3 c = let e = c in omega (arith, second-all e, short (s (a (p e))))
 
 pub slice_bounds-to_first-end : goal.slice_bounds-to_first-end
-slice_bounds-to_first-end c = let e = c.before.before in sym (ap length (second-front e) ∙ (placed e).inside.as_long)
+slice_bounds-to_first-end c = let e = c.before in sym (ap length (second-front e) ∙ (placed e).inside.as_long)
 
 pub to_first-requires : goal.to_first-requires
 to_first-requires c =
-    let e = c.before.before.before in
+    let e = c.before.before in
     let q = a (p e) in
     ((s q).requires, subst (Places (block q) (t q)) (sym (second-front e)) (placed e))
 
 -- the first, at the start of the array
 module _ (c : After-to_first) where
   abbrev e : goal.Else-not-place
-  e = c.before.before.before.before
+  e = c.before.before.before
 
   abbrev q : After-copy
   q = a (p e)
@@ -154,7 +154,7 @@ copy-requires-2 c = let f = c.before.before.before in sym (ap length (third-fron
 pub returns : goal.returns
 returns c =
     let f = c.before.before.before.before.before in
-    let written = c.before.copy-2.ensures ∙ third-front f in
+    let written = c.copy-2.ensures ∙ third-front f in
     record {
       yes = λ _. subst (λ (w : List ℤ). FirstLayout (block (q f)) (t (q f)) (some w)) (sym written) (is-first f);
       no = λ x. clash refl x;

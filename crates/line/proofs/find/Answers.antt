@@ -13,9 +13,8 @@ loop-i-init c = refl
 
 pub returns-then-s-i : goal.returns-then-s-i
 returns-then-s-i c =
-    let loop = c.before.before.before in
-    let args = loop.before.args in
-    omega (arith, loop.loop-i.invariant, until_stop args.s.now loop.loop-i.i args.b c.before.before.loop-i-test.true c.if-s-i.true)
+    let args = c.args in
+    omega (arith, c.loop-i.invariant, until_stop args.s.now c.loop-i.i args.b c.loop-i-test.true c.if-s-i.true)
 
 pub overflow_add-i : goal.overflow_add-i
 overflow_add-i c = omega arith
@@ -25,13 +24,11 @@ loop-i-smaller c = omega arith
 
 pub loop-i-preserved : goal.loop-i-preserved
 loop-i-preserved c =
-    let loop = c.before.before.before in
-    let args = loop.before.args in
-    omega (arith, loop.loop-i.invariant, until-more args.s.now loop.loop-i.i args.b c.before.before.loop-i-test.true c.if-s-i.false)
+    let args = c.args in
+    omega (arith, c.loop-i.invariant, until-more args.s.now c.loop-i.i args.b c.loop-i-test.true c.if-s-i.false)
 
 pub returns : goal.returns
 returns c =
-    let loop = c.before in
-    let args = loop.before.args in
-    let past : length args.s.now ≤ loop.loop-i.i = omega arith in
-    omega (arith, loop.loop-i.invariant, until_end args.s.now loop.loop-i.i args.b past)
+    let args = c.args in
+    let past : length args.s.now ≤ c.loop-i.i = omega arith in
+    omega (arith, c.loop-i.invariant, until_end args.s.now c.loop-i.i args.b past)

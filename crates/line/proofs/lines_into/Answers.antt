@@ -20,10 +20,10 @@ abbrev After-read_line-l : Type 0
 After-read_line-l = lts.After-read_line tie.the-claims reads.Pre reads.Post goal.the-invariant-loop-p goal.the-decreases-loop-p
 
 pub loop-p-init : goal.loop-p-init
-loop-p-init c = walk_first _ _ _ _ _ _ c.before.requires
+loop-p-init c = walk_first _ _ _ _ _ _ c.requires
 
-ends : (c : goal.After-find-e) → c.find-e.result ≤ length c.before.before.before.before.args.s.now
-ends c = part-ends 10 c.before.before.before.before.args.s.now c.before.loop-p-test.true c.find-e.ensures
+ends : (c : goal.After-find-e) → c.find-e.result ≤ length c.args.s.now
+ends c = part-ends 10 c.args.s.now c.loop-p-test.true c.find-e.ensures
 
 pub slice_bounds-read_line-count : goal.slice_bounds-read_line-count
 slice_bounds-read_line-count c = omega arith
@@ -34,10 +34,9 @@ slice_bounds-read_line-start c = omega arith
 pub slice_bounds-read_line-end : goal.slice_bounds-read_line-end
 slice_bounds-read_line-end c = ends c
 
-long : (c : After-read_line-l) → c.before.before.before.before.before.before.args.n ≤ length c.read_line-l.result.words
+long : (c : After-read_line-l) → c.args.n ≤ length c.read_line-l.result.words
 long c =
-    let start = c.before.before.before.before.before.before in
-    let k : length c.read_line-l.result.words ≡ record_most = search rules in omega (arith, start.requires.line_short)
+    let k : length c.read_line-l.result.words ≡ record_most = search rules in omega (arith, c.requires.line_short)
 
 pub slice_bounds-w-end : goal.slice_bounds-w-end
 slice_bounds-w-end c = long c.before.before.before.before
@@ -50,15 +49,12 @@ slice_bounds-put_words-end c =
 pub put_words-t-requires : goal.put_words-t-requires
 put_words-t-requires c =
     let read-line = c.before.before.before.before.before in
-    let loop = read-line.before.before.before.before in
-    let start = loop.before.before in
     rw (length-take-le _ read-line.read_line-l.result.words (long read-line))
-    (omega (arith, loop.loop-p.invariant.short, start.requires.text_short, start.requires.line_short))
+    (omega (arith, read-line.loop-p.invariant.short, read-line.requires.text_short, read-line.requires.line_short))
 
 pub overflow_add-c : goal.overflow_add-c
 overflow_add-c c =
-    let loop = c.before.before.before.before.before.before.before.before.before.before.before in
-    omega (arith, loop.loop-p.invariant.few)
+    omega (arith, c.loop-p.invariant.few)
 
 pub overflow_add-p : goal.overflow_add-p
 overflow_add-p c = omega (arith, ends c.before.before.before.before.before.before.before.before.before)
@@ -70,29 +66,19 @@ loop-p-smaller c =
 
 pub loop-p-preserved : goal.loop-p-preserved
 loop-p-preserved c =
-    let if1 = c.before.before.before.before.before in
-    let read-line = if1.before.before in
-    let find = read-line.before.before in
-    let loop-test = find.before in
-    let loop = loop-test.before in
-    let start = loop.before.before in
-    walk_more _ _ _ _ _ _ loop.loop-p.invariant _ loop-test.loop-p-test.true find.find-e.ensures _ read-line.read_line-l.ensures
-    (not-false if1.if-not-l.false) start.requires.line_short c.before.put_words-t.ensures
+    walk_more _ _ _ _ _ _ c.loop-p.invariant _ c.loop-p-test.true c.find-e.ensures _ c.read_line-l.ensures
+    (not-false c.if-not-l.false) c.requires.line_short c.put_words-t.ensures
 
 pub shape_of-out-after-loop-p : goal.shape_of-out-after-loop-p
-shape_of-out-after-loop-p c = left-length c.before.loop-p.invariant.put
+shape_of-out-after-loop-p c = left-length c.loop-p.invariant.put
 
 pub returns-after-loop-p : goal.returns-after-loop-p
-returns-after-loop-p c = walk_end _ _ _ _ _ _ c.before.loop-p.invariant c.loop-p-test.false
+returns-after-loop-p c = walk_end _ _ _ _ _ _ c.loop-p.invariant c.loop-p-test.false
 
 pub shape_of-out-then-not-l : goal.shape_of-out-then-not-l
-shape_of-out-then-not-l c = left-length c.before.before.before.before.before.before.loop-p.invariant.put
+shape_of-out-then-not-l c = left-length c.loop-p.invariant.put
 
 pub returns-then-not-l : goal.returns-then-not-l
 returns-then-not-l c =
-    let read-line = c.before.before in
-    let find = read-line.before.before in
-    let loop-test = find.before in
-    let loop = loop-test.before in
-    walk-stop _ _ _ _ _ _ loop.loop-p.invariant _ loop-test.loop-p-test.true find.find-e.ensures _ read-line.read_line-l.ensures
+    walk-stop _ _ _ _ _ _ c.loop-p.invariant _ c.loop-p-test.true c.find-e.ensures _ c.read_line-l.ensures
     (not-true c.if-not-l.true)

@@ -22,11 +22,11 @@ loop-i-init c = (walked-first _ _ _, omega arith, refl)
 pub returns-then-p-s : goal.returns-then-p-s
 returns-then-p-s c =
     c.no_line.ensures
-    ∙ fields-few _ _ _ c.before.before.before.loop-i.w _ c.before.before.loop-i-test.true c.before.if-p-s.true
-    ∙ c.before.before.before.loop-i.invariant.0
+    ∙ fields-few _ _ _ c.loop-i.w _ c.loop-i-test.true c.if-p-s.true
+    ∙ c.loop-i.invariant.0
 
-ends : (c : goal.After-find-e) → c.find-e.result ≤ length c.before.before.before.before.before.args.s.now
-ends c = part-ends 44 c.before.before.before.before.before.args.s.now c.before.if-p-s.false c.find-e.ensures
+ends : (c : goal.After-find-e) → c.find-e.result ≤ length c.args.s.now
+ends c = part-ends 44 c.args.s.now c.if-p-s.false c.find-e.ensures
 
 pub slice_bounds-read_number-count : goal.slice_bounds-read_number-count
 slice_bounds-read_number-count c = omega arith
@@ -39,15 +39,10 @@ slice_bounds-read_number-end c = ends c
 
 pub returns-in_default : goal.returns-in_default
 returns-in_default c =
-    let read_number = c.before.before.before in
-    let find = read_number.before.before in
-    let if1 = find.before in
-    let loop-test = if1.before in
-    let loop = loop-test.before in
-    let missing = number-missing _ (sym read_number.read_number.ensures ∙ c.before.enum_told-1.given.1) in
+    let missing = number-missing _ (sym c.read_number.ensures ∙ c.enum_told-1.given.1) in
     c.no_line-in_default.ensures
-    ∙ fields-bad _ _ _ loop.loop-i.w _ _ if1.if-p-s.false find.find-e.ensures loop-test.loop-i-test.true missing
-    ∙ loop.loop-i.invariant.0
+    ∙ fields-bad _ _ _ c.loop-i.w _ _ c.if-p-s.false c.find-e.ensures c.loop-i-test.true missing
+    ∙ c.loop-i.invariant.0
 
 pub overflow_add-i : goal.overflow_add-i
 overflow_add-i c = omega arith
@@ -60,27 +55,17 @@ loop-i-smaller c = omega arith
 
 pub loop-i-preserved : goal.loop-i-preserved
 loop-i-preserved c =
-    let known-told = c.before.before.before in
-    let v = known-told.before in
-    let read_number = v.before.before in
-    let find = read_number.before.before in
-    let if1 = find.before in
-    let loop-test = if1.before in
-    let loop = loop-test.before in
-    let found = number-found _ (sym read_number.read_number.ensures ∙ v.v-1.given.1) in
-    let put = rw (to_z-of_z (fits_word _ known-told.known_told-1.given.0.1)) at c.before.put_word.ensures in
-    let more = fields-more _ _ _ loop.loop-i.w _ _ if1.if-p-s.false find.find-e.ensures loop-test.loop-i-test.true _ found in
-    (rw put (more ∙ loop.loop-i.invariant.0), omega arith, c.before.put_word.auto.0 ∙ loop.loop-i.invariant.2)
+    let found = number-found _ (sym c.read_number.ensures ∙ c.v-1.given.1) in
+    let put = rw (to_z-of_z (fits_word _ c.known_told-1.given.0.1)) at c.put_word.ensures in
+    let more = fields-more _ _ _ c.loop-i.w _ _ c.if-p-s.false c.find-e.ensures c.loop-i-test.true _ found in
+    (rw put (more ∙ c.loop-i.invariant.0), omega arith, c.put_word.auto.0 ∙ c.loop-i.invariant.2)
 
 pub returns-then-p-s-2 : goal.returns-then-p-s-2
 returns-then-p-s-2 c =
-    let loop-test = c.before.before in
-    let loop = loop-test.before in
     c.no_line-then-p-s-2.ensures
-    ∙ fields-over _ _ _ loop.loop-i.w _ _ c.before.if-p-s-2.true refl loop-test.loop-i-test.false
-    ∙ loop.loop-i.invariant.0
+    ∙ fields-over _ _ _ c.loop-i.w _ _ c.if-p-s-2.true refl c.loop-i-test.false
+    ∙ c.loop-i.invariant.0
 
 pub returns : goal.returns
 returns c =
-    let loop = c.before.before in
-    fields-end _ _ _ loop.loop-i.w _ c.before.loop-i-test.false c.if-p-s-2.false ∙ loop.loop-i.invariant.0
+    fields-end _ _ _ c.loop-i.w _ c.loop-i-test.false c.if-p-s-2.false ∙ c.loop-i.invariant.0

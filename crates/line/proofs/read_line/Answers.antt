@@ -9,23 +9,16 @@ use Rattle.line.proofs.read_line.Goals as goal
 
 pub returns-then-find-ne1 : goal.returns-then-find-ne1
 returns-then-find-ne1 c =
-    let find = c.before.before in
-    c.no_line.ensures ∙ ap line_of (sym (line-long _ _ _ _ find.find.ensures c.before.if-find-ne1.true))
+    c.no_line.ensures ∙ ap line_of (sym (line-long _ _ _ _ c.find.ensures c.if-find-ne1.true))
 
 pub bounds-s-0 : goal.bounds-s-0
 bounds-s-0 c =
-    let find = c.before.before in
-    let start = find.before.before in
-    omega (arith, part-ends 44 start.args.s.now {p = 0} (omega arith) find.find.ensures, c.before.if-find-ne1.false)
+    omega (arith, part-ends 44 c.args.s.now {p = 0} (omega arith) c.find.ensures, c.if-find-ne1.false)
 
 pub returns-then-s-letter : goal.returns-then-s-letter
 returns-then-s-letter c =
-    let if1 = c.before.before.before in
-    let find = if1.before in
-    c.no_line-then-s-letter.ensures ∙ ap line_of (sym (line_other _ _ _ _ find.find.ensures if1.if-find-ne1.false c.before.if-s-letter.true))
+    c.no_line-then-s-letter.ensures ∙ ap line_of (sym (line_other _ _ _ _ c.find.ensures c.if-find-ne1.false c.if-s-letter.true))
 
 pub returns : goal.returns
 returns c =
-    let if1 = c.before.before.before in
-    let find = if1.before in
-    c.read_fields.ensures ∙ ap line_of (sym (line-good _ _ _ _ find.find.ensures if1.if-find-ne1.false c.before.if-s-letter.false))
+    c.read_fields.ensures ∙ ap line_of (sym (line-good _ _ _ _ c.find.ensures c.if-find-ne1.false c.if-s-letter.false))

@@ -28,28 +28,21 @@ loop-i-smaller c = omega arith
 
 pub loop-i-preserved : goal.loop-i-preserved
 loop-i-preserved c =
-    let put-field = c.before.before in
-    let loop-test = put-field.before.before.before in
-    let loop = loop-test.before in
-    let start = loop.before.before in
-    let words = start.args.words.now in
-    let loop = loop.loop-i in
+    let loop = c.before in
+    let words = loop.args.words.now in
+    let loop = loop.loop in
     let f : SFits w64 (get_or words loop.i (pos 0)) = search rules in
-    let put = rw (to_z-of_z f) at put-field.put_field-p.ensures in
+    let put = rw (to_z-of_z f) at c.put_field-p.ensures in
     let size = shown-few (get_or words loop.i (pos 0)) in
-    (left-more loop.invariant.0 (commas-more words loop.i loop-test.loop-i-test.true) put, omega (arith, put.past), omega arith)
+    (left-more loop.invariant.0 (commas-more words loop.i c.loop-i-test.true) put, omega (arith, put.past), omega arith)
 
 pub overflow_add-result : goal.overflow_add-result
 overflow_add-result c = omega arith
 
 pub shape_of-out : goal.shape_of-out
-shape_of-out c = c.before.before.put_byte.auto.0 ∙ left-length c.before.before.before.before.before.loop-i.invariant.0
+shape_of-out c = c.put_byte.auto.0 ∙ left-length c.loop-i.invariant.0
 
 pub returns : goal.returns
 returns c =
-    let put_byte = c.before.before in
-    let loop-test = put_byte.before.before in
-    let loop = loop-test.before in
-    let start = loop.before.before in
-    let end = commas-end start.args.words.now loop.loop-i.i loop-test.loop-i-test.false in
-    left-done loop.loop-i.invariant.0 (put_as (sym end) (put_one put_byte.put_byte.ensures))
+    let end = commas-end c.args.words.now c.loop-i.i c.loop-i-test.false in
+    left-done c.loop-i.invariant.0 (put_as (sym end) (put_one c.put_byte.ensures))

@@ -6,7 +6,4 @@ use Rattle.listing.proofs.put_field.Goals as goal
 
 pub returns : goal.returns
 returns c =
-    let put-number = c.before.before in
-    let put_byte = put-number.before.before.before.before in
-    let start = put_byte.before.before.before in
-    put-more (put_one put_byte.put_byte.ensures) (rw (to_z-of_z start.ranges.w) at put-number.put_number.ensures)
+    put-more (put_one c.put_byte.ensures) (rw (to_z-of_z c.ranges.w) at c.put_number.ensures)

@@ -6,7 +6,4 @@ use Rattle.listing.proofs.put_first.Goals as goal
 
 pub returns : goal.returns
 returns c =
-    let put-commas = c.before.before in
-    let put-bytes = put-commas.before.before.before.before.before in
-    let start = put-bytes.before.before.before.before in
-    put-more put-bytes.put_bytes-p.ensures (rw (to_z-of_z start.ranges.z) at put-commas.put_commas.ensures)
+    put-more c.put_bytes-p.ensures (rw (to_z-of_z c.ranges.z) at c.put_commas.ensures)

@@ -6,4 +6,4 @@ use Rattle.listing.proofs.put_refused.Goals as goal
 
 pub returns : goal.returns
 unfolding ascii
-returns c = rw (to_z-of_z c.before.before.before.before.before.before.ranges.refusal) at c.before.before.put_first.ensures
+returns c = rw (to_z-of_z c.ranges.refusal) at c.put_first.ensures

@@ -8,12 +8,8 @@ use Rattle.listing.proofs.put_row.Goals as goal
 
 pub put_commas-requires : goal.put_commas-requires
 put_commas-requires c =
-    let put-natural = c.before.before.before in
-    let start = put-natural.before.before.before in
-    let size = shown-few (pos start.args.m) in omega (arith, put-natural.put_natural-p.ensures.past)
+    let size = shown-few (pos c.args.m) in omega (arith, c.put_natural-p.ensures.past)
 
 pub returns : goal.returns
 returns c =
-    let put-commas = c.before.before in
-    let put-natural = put-commas.before.before.before.before in
-    put-more put-natural.put_natural-p.ensures put-commas.put_commas.ensures
+    put-more c.put_natural-p.ensures c.put_commas.ensures

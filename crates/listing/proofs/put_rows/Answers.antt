@@ -22,8 +22,8 @@ In-loop-m = lts.In-loop tie.the-claims reads.Pre reads.Post goal.the-invariant-l
 
 pub loop-m-init : goal.loop-m-init
 loop-m-init c =
-    let all : c.before.args.n - 0 ≡ c.before.args.n = omega arith in
-    (rows-first _ _ _ _ _, omega arith, rw (zero-add, all) c.before.requires.inside, omega arith)
+    let all : c.args.n - 0 ≡ c.args.n = omega arith in
+    (rows-first _ _ _ _ _, omega arith, rw (zero-add, all) c.requires.inside, omega arith)
 
 -- the next row has its room
 record Room (start len n m size : ℕ) : Type 0 where
@@ -32,13 +32,12 @@ record Room (start len n m size : ℕ) : Type 0 where
   few : size ≤ table_most
 
 room : (c : In-loop-m)
-    → let args = c.before.before.before.args in
-    Room c.before.loop-m.start args.len args.n c.before.loop-m.m (length args.table.now)
+    → let args = c.args in
+    Room c.loop-m.start args.len args.n c.loop-m.m (length args.table.now)
 room c =
-    let start = c.before.before.before in
     let r =
-    row_room c.before.loop-m.start start.args.len start.args.n c.before.loop-m.m _ c.loop-m-test.true c.before.loop-m.invariant.2 in
-    record { fits = r.0; more = r.1; few = start.requires.table_short }
+    row_room c.loop-m.start c.args.len c.args.n c.loop-m.m _ c.loop-m-test.true c.loop-m.invariant.2 in
+    record { fits = r.0; more = r.1; few = c.requires.table_short }
 
 pub overflow_add-m : goal.overflow_add-m
 overflow_add-m c = omega arith
@@ -61,14 +60,12 @@ slice_bounds-put_row-end c = let r = room c.before in omega arith
 pub put_row-p-requires : goal.put_row-p-requires
 put_row-p-requires c =
     let loop-test = c.before.before in
-    let loop = loop-test.before in
-    let start = loop.before.before in
     let r = room loop-test in
-    let args = start.args in
+    let args = loop-test.args in
     let t = args.table.now in
-    let words = row_words t loop.loop-m.start args.len in
-    let size = row-length t loop.loop-m.start args.len r.ranges in
-    (omega (arith, loop.loop-m.invariant.1, start.requires.early, start.requires.few), rw (words, size) (omega arith))
+    let words = row_words t loop-test.loop-m.start args.len in
+    let size = row-length t loop-test.loop-m.start args.len r.ranges in
+    (omega (arith, loop-test.loop-m.invariant.1, loop-test.requires.early, loop-test.requires.few), rw (words, size) (omega arith))
 
 pub overflow_add-start-in-loop-m : goal.overflow_add-start-in-loop-m
 overflow_add-start-in-loop-m c = let r = room c.before.before.before.before.before in omega arith
@@ -81,17 +78,15 @@ loop-m-smaller c = omega arith
 
 pub loop-m-preserved : goal.loop-m-preserved
 loop-m-preserved c =
-    let put-row = c.before.before in
-    let loop-test = put-row.before.before.before in
+    let loop-test = c.before.before.before in
     let loop = loop-test.before in
-    let start = loop.before.before in
-    let args = start.args in
-    let loop = loop.loop-m in
+    let args = loop.args in
+    let loop = loop.loop in
     let t = args.table.now in
     let r = room loop-test in
     let row = take args.len (drop loop.start t) in
     let put =
-    put_as (ap (λ (x : List ℤ). shown (pos (loop.m + 1)) ++ commas x) (row_words t loop.start args.len)) put-row.put_row-p.ensures in
+    put_as (ap (λ (x : List ℤ). shown (pos (loop.m + 1)) ++ commas x) (row_words t loop.start args.len)) c.put_row-p.ensures in
     let more = rows_more args.len args.n loop.m loop.start t loop-test.loop-m-test.true in
     let size = row-length t loop.start args.len r.ranges in
     let a = shown-few (pos (loop.m + 1)) in
@@ -100,9 +95,9 @@ loop-m-preserved c =
     (left-more loop.invariant.0 more put, omega (arith, put.past, loop.invariant.1), r.more, omega arith)
 
 pub shape_of-out : goal.shape_of-out
-shape_of-out c = left-length c.before.loop-m.invariant.0
+shape_of-out c = left-length c.loop-m.invariant.0
 
 pub returns : goal.returns
 returns c =
-    let none_left : c.before.before.before.args.n - c.before.loop-m.m ≡ 0 = omega arith in
-    left-done c.before.loop-m.invariant.0 (put_as (sym (rows_end _ _ _ none_left)) (put-none _ _))
+    let none_left : c.args.n - c.loop-m.m ≡ 0 = omega arith in
+    left-done c.loop-m.invariant.0 (put_as (sym (rows_end _ _ _ none_left)) (put-none _ _))

@@ -18,19 +18,16 @@ use Rattle.listing.proofs.put_settled.Goals as goal
 abbrev Then-table-gt-TABLE_WORDS : Type 0
 Then-table-gt-TABLE_WORDS = lts.Then1 tie.the-claims reads.Pre reads.Post
 
-first : (c : Then-table-gt-TABLE_WORDS) → length (take table_most c.before.before.args.table.now) ≡ table_most
-first c = length-take-le table_most c.before.before.args.table.now (omega arith)
+first : (c : Then-table-gt-TABLE_WORDS) → length (take table_most c.args.table.now) ≡ table_most
+first c = length-take-le table_most c.args.table.now (omega arith)
 
 pub slice_bounds-put_table-end : goal.slice_bounds-put_table-end
-slice_bounds-put_table-end c = sym (first c.before.before)
+slice_bounds-put_table-end c = sym (first c.before)
 
 pub put_table-requires : goal.put_table-requires
-put_table-requires c = rw (first c.before.before) (omega arith)
+put_table-requires c = rw (first c.before) (omega arith)
 
 pub returns : goal.returns
 returns c =
-    let put-table2 = c.before.before in
-    let if1 = put-table2.before.before in
-    let start = if1.before.before in
-    let whole = take_all table_most start.args.table.now if1.if-table-gt-TABLE_WORDS.false in
-    put_as (ap (λ (t : List ℤ). printed_for 0 start.args.block.now (some t)) (sym whole)) put-table2.put_table-2.ensures
+    let whole = take_all table_most c.args.table.now c.if-table-gt-TABLE_WORDS.false in
+    put_as (ap (λ (t : List ℤ). printed_for 0 c.args.block.now (some t)) (sym whole)) c.put_table-2.ensures

@@ -21,38 +21,33 @@ nonzero_div-n c = len-some _ c.row_len-len.ensures
 
 -- how many rows
 abbrev rows : goal.After-row_len-len → ℕ
-rows c = length c.before.before.args.table.now / c.row_len-len.result
+rows c = length c.args.table.now / c.row_len-len.result
 
 few : (c : goal.After-row_len-len) → rows c ≤ table_most
-few c = le_trans (div-le_self _ c.row_len-len.result) c.before.before.requires
+few c = le_trans (div-le_self _ c.row_len-len.result) c.requires
 
 fits : (c : goal.After-row_len-len) → SFits w64 (pos (rows c))
 fits c = let h = few c in record { sfits = omega arith }
 
 pub overflow_cast-n : goal.overflow_cast-n
-overflow_cast-n c = fits c.before.before
+overflow_cast-n c = fits c.before.before.before
 
 pub put_rows-requires : goal.put_rows-requires
 put_rows-requires c =
-    let put_first = c.before.before.before in
-    let row_len = put_first.before.before.before in
-    let start = row_len.before.before in
+    let row_len = c.before.before.before.before.before.before.before in
     let size = commas-few (pos (rows row_len) ∷ []) in
-    let put = rw (to_z-of_z (fits row_len)) at put_first.put_first-p.ensures in
+    let put = rw (to_z-of_z (fits row_len)) at c.put_first-p.ensures in
     record {
       early = omega (arith, put.past);
       inside = div-mul-le_self _ row_len.row_len-len.result;
-      table_short = start.requires;
+      table_short = row_len.requires;
       few = few row_len;
     }
 
 pub returns : goal.returns
 unfolding ascii
 returns c =
-    let put-rows = c.before.before in
-    let put_first = put-rows.before.before.before.before in
-    let row_len = put_first.before.before.before in
-    let start = row_len.before.before in
-    let put = rw (to_z-of_z (fits row_len)) at put_first.put_first-p.ensures in
-    put_as (settled_is start.args.block.now start.args.table.now row_len.row_len-len.ensures start.requires)
-    (put-more put put-rows.put_rows.ensures)
+    let row_len = c.before.before.before.before.before.before.before.before.before.before in
+    let put = rw (to_z-of_z (fits row_len)) at c.put_first-p.ensures in
+    put_as (settled_is row_len.args.block.now row_len.args.table.now row_len.row_len-len.ensures row_len.requires)
+    (put-more put c.put_rows.ensures)

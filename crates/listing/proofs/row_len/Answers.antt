@@ -19,12 +19,12 @@ returns-then-block-eq0 c = len-none _ c.if-block-eq0.true
 
 pub returns-then-k-lt1 : goal.returns-then-k-lt1
 returns-then-k-lt1 c =
-    let f : SFits w64 (get_or c.before.before.before.args.block.now 0 (pos 0)) = search rules in
+    let f : SFits w64 (get_or c.args.block.now 0 (pos 0)) = search rules in
     len-low _ (omega ints)
 
 pub returns-then-k-gt143 : goal.returns-then-k-gt143
 returns-then-k-gt143 c =
-    let f : SFits w64 (get_or c.before.before.before.before.args.block.now 0 (pos 0)) = search rules in
+    let f : SFits w64 (get_or c.args.block.now 0 (pos 0)) = search rules in
     len-high _ (omega ints)
 
 -- the first word is a number up to 143
@@ -33,9 +33,9 @@ record Small (z : ℤ) : Type 0 where
   bits : to_z w64 (of_z w64 z) ≡ pos (nat z)
   few : nat z ≤ 143
 
-small : (c : goal.Else-k-gt143) → Small (get_or c.before.before.before.before.args.block.now 0 (pos 0))
+small : (c : goal.Else-k-gt143) → Small (get_or c.args.block.now 0 (pos 0))
 small c =
-    let z = get_or c.before.before.before.before.args.block.now 0 (pos 0) in
+    let z = get_or c.args.block.now 0 (pos 0) in
     let f : SFits w64 z = search rules in
     let is : z ≡ pos (nat z) = sym (pos-nat (omega ints)) in
     record { word = is; bits = to_z-of_z f ∙ is; few = omega ints }

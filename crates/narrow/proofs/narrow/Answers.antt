@@ -53,15 +53,15 @@ module _ (c : Start) where
   abbrev found : Option (List ℤ)
   found = narrow_of block first (nat c.args.row)
 
-told : (c : After-row_refusal-g) → c.row_refusal-g.result ≡ pos (refusal-of c.before.before)
-told c = let s = c.before.before in c.row_refusal-g.ensures ∙ ap (λ (z : ℤ). pos (refusal_row (block s) (first s) z)) (to_z-of_z s.ranges.row)
+told : (c : After-row_refusal-g) → c.row_refusal-g.result ≡ pos (refusal-of c.before)
+told c = let s = c.before in c.row_refusal-g.ensures ∙ ap (λ (z : ℤ). pos (refusal_row (block s) (first s) z)) (to_z-of_z s.ranges.row)
 
 module _ (c : goal.Else-g-gt0) where
   abbrev s : Start
-  s = c.before.before.before
+  s = c.before.before
 
   not-refused : refusal-of s ≡ 0
-  not-refused = accepted (told c.before) c.before.row_refusal-g.type_inv c.if-g-gt0.false
+  not-refused = accepted (told c.before) c.row_refusal-g.type_inv c.if-g-gt0.false
 
   sheet-accepted : refusal (block s) (first s) ≡ 0
   sheet-accepted = (row-accepted _ _ _ not-refused).0
@@ -75,39 +75,38 @@ module _ (c : goal.Else-g-gt0) where
 pub returns-then-g-gt0 : goal.returns-then-g-gt0
 returns-then-g-gt0 c =
     let b = c.before in
-    let s = b.before.before in
+    let s = b.before in
     rw (read_back (told b) b.row_refusal-g.type_inv)
     (narrow-refused (first s) (found s) (refusal-of s) (refused (told b) b.row_refusal-g.type_inv c.if-g-gt0.true))
 
 pub overflow_cast-row : goal.overflow_cast-row
-overflow_cast-row c = let n = (number c.before).count in cast_ok n.from n.upto tt tt
+overflow_cast-row c = let n = (number c).count in cast_ok n.from n.upto tt tt
 
 pub row_place-i-requires : goal.row_place-i-requires
 row_place-i-requires c =
-    let e = c.before in
+    let e = c in
     let n = number e in
     let a = sheet-accepted e in
     (accepted-head _ _ a, accepted-rows _ _ a, rw (row-cast e) (row_upto n))
 
 pub draw-requires : goal.draw-requires
-draw-requires c = accepted-block _ _ (sheet-accepted c.before.before.before)
+draw-requires c = accepted-block _ _ (sheet-accepted c.before.before)
 
 pub most-most-requires : goal.most-most-requires
 most-most-requires c =
-    let d = c.before.before in
-    let a = sheet-accepted d.before.before.before.before in
-    (accepted-head _ _ a, accepted-rows _ _ a, d.draw.ensures.rules.count)
+    let a = sheet-accepted c.before.before.before.before in
+    (accepted-head _ _ a, accepted-rows _ _ a, c.draw.ensures.rules.count)
 
 -- the row, with the outline that was drawn
 module _ (c : After-most-most) where
   abbrev drawn : After-draw
-  drawn = c.before.before.before
+  drawn = c.before.before
 
   abbrev placed : After-row_place-i
-  placed = c.before.before.before.before.before
+  placed = c.before.before.before.before
 
   abbrev passed : goal.Else-g-gt0
-  passed = c.before.before.before.before.before.before.before
+  passed = c.before.before.before.before.before
 
   on_row : OnRow (block (s passed)) (first (s passed)) drawn.draw.new.outline placed.row_place-i.result
   on_row = record {
@@ -132,10 +131,10 @@ pub narrow_in-requires : goal.narrow_in-requires
 narrow_in-requires c = on_row c.before.before.before.before
 
 pub returns-then-most-le-FEW : goal.returns-then-most-le-FEW
-returns-then-most-le-FEW c = let n = c.before.before in answered n.before.before.before.before.before n.narrow_in.ensures
+returns-then-most-le-FEW c = answered c.before.before.before.before.before.before.before c.narrow_in.ensures
 
 pub narrow_in-requires-2 : goal.narrow_in-requires-2
 narrow_in-requires-2 c = on_row c.before.before.before.before
 
 pub returns : goal.returns
-returns c = let n = c.before.before in answered n.before.before.before.before.before n.narrow_in-2.ensures
+returns c = answered c.before.before.before.before.before.before.before c.narrow_in-2.ensures

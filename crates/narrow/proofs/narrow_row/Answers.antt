@@ -37,19 +37,18 @@ ends_at-ends-requires c = tt
 
 pub kept_shapes-shapes-requires : goal.kept_shapes-shapes-requires
 kept_shapes-shapes-requires c =
-    let e = c.before.before.before.before in
-    let s = e.before in
+    let s = c.before.before.before.before in
     record {
       on = s.requires;
       below = omega arith;
       long = search rules;
-      ends_of = ends-start (block s) (table s) s.args.i.number s.requires.accepted.head.few_axes e.ends_at-ends.ensures;
+      ends_of = ends-start (block s) (table s) s.args.i.number s.requires.accepted.head.few_axes c.ends_at-ends.ensures;
     }
 
 -- what is kept
 module _ (h : After-kept_shapes-shapes) where
   abbrev s : goal.Start
-  s = h.before.before.before.before.before.before
+  s = h.before.before.before.before.before
 
   abbrev ends : List ℤ
   ends = h.kept_shapes-shapes.new.table.1.1.1.1.0
@@ -70,14 +69,10 @@ returns-then-shapes-eq0 c = let h = c.before.before.before in step-none (table (
 
 pub returns-then-write_row : goal.returns-then-write_row
 returns-then-write_row c =
-    let w = c.before.before in
-    let e = w.before.before.before in
-    let h = e.before.before.before in
-    step-some (table (s h)) (narrowed h e.if-shapes-eq0.false) w.write_row.ensures.0 (not-true (sym w.write_row.ensures.1 ∙ c.if-write_row.true))
+    let h = c.before.before.before.before.before.before.before.before in
+    step-some (table (s h)) (narrowed h c.if-shapes-eq0.false) c.write_row.ensures.0 (not-true (sym c.write_row.ensures.1 ∙ c.if-write_row.true))
 
 pub returns : goal.returns
 returns c =
-    let w = c.before.before in
-    let e = w.before.before.before in
-    let h = e.before.before.before in
-    step-some (table (s h)) (narrowed h e.if-shapes-eq0.false) w.write_row.ensures.0 (not-false (sym w.write_row.ensures.1 ∙ c.if-write_row.false))
+    let h = c.before.before.before.before.before.before.before.before in
+    step-some (table (s h)) (narrowed h c.if-shapes-eq0.false) c.write_row.ensures.0 (not-false (sym c.write_row.ensures.1 ∙ c.if-write_row.false))

@@ -13,9 +13,8 @@ use Rattle.narrow.proofs.put.Goals as goal
 
 pub returns : goal.returns
 returns c =
-    let s = c.before.before in
-    let a = s.args in
-    let f : SFits w64 (word a.table.now a.at) = fits_word _ c.before.old-1.given in (
-      ap (set a.table.now a.at) (to_z-of_z s.ranges.w),
-      ap not (eqb-bits f s.ranges.w) ∙ ap (λ (b : Bool). b || not (eq_z (word a.table.now a.at) a.w)) (sym c.if-moved.false),
+    let a = c.args in
+    let f : SFits w64 (word a.table.now a.at) = fits_word _ c.old-1.given in (
+      ap (set a.table.now a.at) (to_z-of_z c.ranges.w),
+      ap not (eqb-bits f c.ranges.w) ∙ ap (λ (b : Bool). b || not (eq_z (word a.table.now a.at) a.w)) (sym c.if-moved.false),
     )

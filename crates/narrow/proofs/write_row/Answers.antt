@@ -51,11 +51,11 @@ module _ (l : At-loop-d) where
   abbrev so_far : List ℤ
   so_far = pairs_below l.loop-d.d lows highs
 
-  few : l.before.axes_of-k.result ≤ coordinates
-  few = omega (arith, l.before.axes_of-k.ensures, s.requires.0.head.few_axes)
+  few : l.axes_of-k.result ≤ coordinates
+  few = omega (arith, l.axes_of-k.ensures, s.requires.0.head.few_axes)
 
-  ends : at + (1 + 2 * l.before.axes_of-k.result) ≤ length first
-  ends = omega (arith, l.before.axes_of-k.ensures, row_ends s.requires.0)
+  ends : at + (1 + 2 * l.axes_of-k.result) ≤ length first
+  ends = omega (arith, l.axes_of-k.ensures, row_ends s.requires.0)
 
   long : length so_far ≡ 2 * l.loop-d.d
   long = length-pairs_below l.loop-d.d lows highs
@@ -74,15 +74,15 @@ module _ (c : After-put-moved) where
   abbrev d : ℕ
   d = top.loop-d.d
 
-  below : d < top.before.axes_of-k.result
-  below = c.before.before.before.loop-d-test.true
+  below : d < top.axes_of-k.result
+  below = c.loop-d-test.true
 
   abbrev low_word : ℤ
   low_word = lows top d
 
   low-written : Written (first top) (at top + 1) (so_far top ++ (low_word ∷ [])) c.put-moved.new.table c.put-moved.result
   low-written =
-      let e = bits_back {z = low_word} c.before.put-arg-in-loop-d-1.given in
+      let e = bits_back {z = low_word} c.put-arg-in-loop-d-1.given in
       written-more top.loop-d.invariant.1 (at top + 1 + 2 * d) low_word (omega (arith, long top)) (omega (arith, ends top, below))
       (c.put-moved.ensures.0 ∙ ap (set top.loop-d.table (at top + 1 + 2 * d)) e)
       (c.put-moved.ensures.1 ∙ ap (λ (v : ℤ). top.loop-d.moved || not (eq_z (word top.loop-d.table (at top + 1 + 2 * d)) v)) e)
@@ -98,25 +98,25 @@ axes_of-k-requires c = c.requires.0.head
 
 pub loop-d-init : goal.loop-d-init
 unfolding pairs_below
-loop-d-init c = (omega arith, written_none c.before.args.table.now (c.before.args.i.at + 1))
+loop-d-init c = (omega arith, written_none c.args.table.now (c.args.i.at + 1))
 
 pub overflow_add-at : goal.overflow_add-at
 overflow_add-at c = let l = c.before.before in omega (arith, ends l)
 
 pub overflow_mul-d : goal.overflow_mul-d
-overflow_mul-d c = let l = c.before.before in omega (arith, few l, c.before.loop-d-test.true)
+overflow_mul-d c = let l = c.before.before in omega (arith, few l, c.loop-d-test.true)
 
 pub overflow_add-at-in-loop-d : goal.overflow_add-at-in-loop-d
-overflow_add-at-in-loop-d c = let l = c.before.before in omega (arith, ends l, c.before.loop-d-test.true)
+overflow_add-at-in-loop-d c = let l = c.before.before in omega (arith, ends l, c.loop-d-test.true)
 
 pub offset_bounds-ends-d : goal.offset_bounds-ends-d
-offset_bounds-ends-d c = let l = c.before.before in omega (arith, few l, c.before.loop-d-test.true)
+offset_bounds-ends-d c = let l = c.before.before in omega (arith, few l, c.loop-d-test.true)
 
 pub bounds-ends-d : goal.bounds-ends-d
-bounds-ends-d c = let l = c.before.before in omega (arith, few l, (s l).requires.1, c.before.loop-d-test.true)
+bounds-ends-d c = let l = c.before.before in omega (arith, few l, (s l).requires.1, c.loop-d-test.true)
 
 pub put-moved-requires : goal.put-moved-requires
-put-moved-requires c = let l = c.before.before.before in omega (arith, ends l, len l, c.before.before.loop-d-test.true)
+put-moved-requires c = let l = c.before.before.before in omega (arith, ends l, len l, c.loop-d-test.true)
 
 pub overflow_add-at-in-loop-d-2 : goal.overflow_add-at-in-loop-d-2
 overflow_add-at-in-loop-d-2 c = let p = c.before.before in omega (arith, ends (top p), below p)
@@ -147,20 +147,19 @@ loop-d-smaller c = let p = c.before.before.before.before.before in omega (arith,
 
 pub loop-d-preserved : goal.loop-d-preserved
 loop-d-preserved c =
-    let q = c.before in
-    let p = q.before.before.before.before in
+    let p = c.before.before.before.before.before in
     let hi = highs (top p) (d p) in
-    let e = bits_back {z = hi} q.before.put-arg-in-loop-d-3-1.given in (
+    let e = bits_back {z = hi} c.put-arg-in-loop-d-3-1.given in (
       omega (arith, below p),
-      subst (λ (ws : List ℤ). Written (first (top p)) (at (top p) + 1) ws q.put-moved-in-loop-d.new.table q.put-moved-in-loop-d.result)
+      subst (λ (ws : List ℤ). Written (first (top p)) (at (top p) + 1) ws c.put-moved-in-loop-d.new.table c.put-moved-in-loop-d.result)
           (append_assoc (so_far (top p)) (low_word p ∷ []) (hi ∷ []) ∙ sym (pairs_below-more (d p) (lows (top p)) (highs (top p))))
           (written-more (low-written p) (at (top p) + 2 + 2 * d p) hi (omega (arith, low-long p)) (omega (arith, ends (top p), below p))
-          (q.put-moved-in-loop-d.ensures.0 ∙ ap (set p.put-moved.new.table (at (top p) + 2 + 2 * d p)) e)
-          (q.put-moved-in-loop-d.ensures.1 ∙ ap (λ (v : ℤ). p.put-moved.result || not (eq_z (word p.put-moved.new.table (at (top p) + 2 + 2 * d p)) v)) e)),
+          (c.put-moved-in-loop-d.ensures.0 ∙ ap (set p.put-moved.new.table (at (top p) + 2 + 2 * d p)) e)
+          (c.put-moved-in-loop-d.ensures.1 ∙ ap (λ (v : ℤ). p.put-moved.result || not (eq_z (word p.put-moved.new.table (at (top p) + 2 + 2 * d p)) v)) e)),
     )
 
 pub overflow_cast-shapes : goal.overflow_cast-shapes
-overflow_cast-shapes c = fits_word (pos c.before.before.before.before.args.shapes) (omega (arith, c.before.before.before.before.ranges.shapes.fits))
+overflow_cast-shapes c = fits_word (pos c.args.shapes) (omega (arith, c.ranges.shapes.fits))
 
 pub put-requires : goal.put-requires
 put-requires c = let l = c.before.before in omega (arith, ends l, len l)
@@ -188,5 +187,5 @@ returns c =
     let l = done c.before in
     let a = (s l).args in
     let q : l.loop-d.d ≡ axes a.block.now =
-    omega (arith, l.before.axes_of-k.ensures, l.loop-d.invariant.0, c.before.before.before.loop-d-test.false) in
+    omega (arith, l.axes_of-k.ensures, l.loop-d.invariant.0, c.loop-d-test.false) in
     (w.is ∙ ap₂ (λ (p m : ℕ). replaced (first l) p (pos a.shapes ∷ pairs_below m (lows l) (highs l))) (s l).requires.0.stands q, w.tells)

@@ -8,4 +8,4 @@ use Rattle.nearby.proofs.lists_nothing.Goals as goal
 
 pub returns : goal.returns
 unfolding lists_nothing
-returns c = let x = c.before.args.nearby in ap (λ (b : Bool). x.whole && eqb x.count 0 && b) c.is_none.ensures
+returns c = let x = c.args.nearby in ap (λ (b : Bool). x.whole && eqb x.count 0 && b) c.is_none.ensures

@@ -20,9 +20,9 @@ abbrev After-row_stands : Type 0
 After-row_stands = lts.After-row_stands tie.the-claims reads.Pre reads.Post goal.the-invariant-loop-m goal.the-decreases-loop-m
 
 -- what was found of the row at hand
-answer : (c : After-row_stands) → let l = c.before.before.before in let a = l.before.before.args in
-    Judged a.block.now a.table.now (l.loop-m.m + 1) c.row_stands.result
-answer c = rw c.before.row_place.ensures.1 at c.row_stands.ensures
+answer : (c : After-row_stands) → let a = c.args in
+    Judged a.block.now a.table.now (c.loop-m.m + 1) c.row_stands.result
+answer c = rw c.row_place.ensures.1 at c.row_stands.ensures
 
 pub rows_of-n-requires : goal.rows_of-n-requires
 rows_of-n-requires c = c.requires.accepted.head
@@ -32,30 +32,27 @@ loop-m-init c = (search rules, λ i h k. absurd (omega arith))
 
 pub row_place-requires : goal.row_place-requires
 row_place-requires c =
-    let s = c.before.before.before.requires in
-    (s.accepted.head, s.table.whole, up_next (omega (arith, c.before.before.rows_of-n.ensures, c.loop-m-test.true)))
+    let s = c.requires in
+    (s.accepted.head, s.table.whole, up_next (omega (arith, c.rows_of-n.ensures, c.loop-m-test.true)))
 
 pub row_stands-requires : goal.row_stands-requires
-row_stands-requires c = (c.before.before.before.before.requires, c.row_place.ensures.0)
+row_stands-requires c = (c.requires, c.row_place.ensures.0)
 
 pub returns-then-not-row_stands : goal.returns-then-not-row_stands
 unfolding good
 returns-then-not-row_stands c =
-    let l = c.before.before.before.before in
-    let a = l.before.before.args in
-    sym (upto_false (row_good a.block.now a.table.now) (omega (arith, l.before.rows_of-n.ensures))
+    let a = c.args in
+    sym (upto_false (row_good a.block.now a.table.now) (omega (arith, c.rows_of-n.ensures))
     ((answer c.before).bad (not-true c.if-not-row_stands.true-raw)))
 
 pub loop-m-preserved : goal.loop-m-preserved
 loop-m-preserved c =
-    let l = c.before.before.before.before in
     let here = (answer c.before).clear (not-false c.if-not-row_stands.false-raw) in (
       search rules,
-      λ i h k. ⊎_elim (λ q. subst (Clear _ _) (sym q) here) (λ q. l.loop-m.invariant.1 i h (omega (arith, k, q))) (same_or i (l.loop-m.m + 1)),
+      λ i h k. ⊎_elim (λ q. subst (Clear _ _) (sym q) here) (λ q. c.loop-m.invariant.1 i h (omega (arith, k, q))) (same_or i (c.loop-m.m + 1)),
     )
 
 pub returns : goal.returns
 returns c =
-    let s = c.before.before.before in
-    sym (clear-good _ _ s.requires.all_fixed
-    (λ i row. c.before.loop-m.invariant.1 i row.from (omega (arith, c.before.before.rows_of-n.ensures, row.upto, c.loop-m-test.false))))
+    sym (clear-good _ _ c.requires.all_fixed
+    (λ i row. c.loop-m.invariant.1 i row.from (omega (arith, c.rows_of-n.ensures, row.upto, c.loop-m-test.false))))

@@ -18,8 +18,8 @@ Else-g-gt0 = lts.Else1 tie.the-claims reads.Pre reads.Post
 abbrev After-all_good : Type 0
 After-all_good = lts.After-all_good tie.the-claims reads.Pre reads.Post
 
-none : (c : Else-g-gt0) → let a = c.before.before.args in refusal_placement a.block.now a.table.now ≡ 0
-none c = accepted c.before.placement_refusal-g.ensures c.before.placement_refusal-g.type_inv c.if-g-gt0.false
+none : (c : Else-g-gt0) → let a = c.args in refusal_placement a.block.now a.table.now ≡ 0
+none c = accepted c.placement_refusal-g.ensures c.placement_refusal-g.type_inv c.if-g-gt0.false
 
 -- the placement was judged where no check applied
 abbrev checks-left : After-all_good → Else-g-gt0
@@ -27,7 +27,7 @@ checks-left x = x.before.before.before.before
 
 pub returns-then-g-gt0 : goal.returns-then-g-gt0
 returns-then-g-gt0 c =
-    let g = c.before.placement_refusal-g in
+    let g = c.placement_refusal-g in
     ap Q.Refused (read_back g.ensures g.type_inv) ∙ sym (answer-refused _ (refused g.ensures g.type_inv c.if-g-gt0.true))
 
 pub draw-requires : goal.draw-requires
@@ -35,12 +35,11 @@ draw-requires c = accepted-block _ _ (checked _ _ (none c.before)).0
 
 pub all_good-requires : goal.all_good-requires
 all_good-requires c =
-    let d = c.before in
-    let w = checked _ _ (none d.before.before) in
+    let w = checked _ _ (none c.before.before.before) in
     record {
       accepted = accepted-block _ _ w.0;
       table = accepted-table _ _ w.0;
-      outline = d.draw.ensures;
+      outline = c.draw.ensures;
       all_fixed = w.1;
     }
 

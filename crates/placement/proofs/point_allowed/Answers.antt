@@ -33,22 +33,22 @@ Start = lts.Start tie.the-claims reads.Pre reads.Post
 abbrev After-stands : Type 0
 After-stands = lts.After-stands tie.the-claims reads.Pre reads.Post
 
-told : (c : After-shape_refusal-g) → let a = c.before.args in
+told : (c : After-shape_refusal-g) → let a = c.args in
     c.shape_refusal-g.result ≡ pos (refusal_shape a.block.now a.table.now a.row a.shape)
-told c = c.shape_refusal-g.ensures ∙ ap pos (ap₂ (refusal_shape _ _) (to_z-of_z c.before.ranges.row) (to_z-of_z c.before.ranges.shape))
+told c = c.shape_refusal-g.ensures ∙ ap pos (ap₂ (refusal_shape _ _) (to_z-of_z c.ranges.row) (to_z-of_z c.ranges.shape))
 
 module _ (e : goal.Else-g-gt0) where
   abbrev top : Start
   top = e.before.before
 
   abbrev block : List ℤ
-  block = e.before.before.args.block.now
+  block = e.args.block.now
 
   abbrev t : List ℤ
-  t = e.before.before.args.table.now
+  t = e.args.table.now
 
   no-refusal : refusal_shape block t top.args.row top.args.shape ≡ 0
-  no-refusal = accepted (told e.before) e.before.shape_refusal-g.type_inv e.if-g-gt0.false
+  no-refusal = accepted (told e.before) e.shape_refusal-g.type_inv e.if-g-gt0.false
 
   asks : ShapeAsked block t top.args.row top.args.shape
   asks = shape-asked block t top.args.row top.args.shape no-refusal
@@ -66,13 +66,12 @@ checks-left x = x.before.before.before.before.before
 found : (x : After-stands) → let e = checks-left x in
     x.stands.result ≡ allowed (block e) (t e) (nat (top e).args.row) (nat (top e).args.shape) (top e).args.p
 found x =
-    let r = x.before.before.before.before in
-    let e = r.before in
-    x.stands.ensures ∙ ap₂ (λ (i s : ℕ). allowed (block e) (t e) i s (top e).args.p) (r.row_place-i.ensures.1 ∙ row_is e) (shape_is e)
+    let e = x.before.before.before.before.before in
+    x.stands.ensures ∙ ap₂ (λ (i s : ℕ). allowed (block e) (t e) i s (top e).args.p) (x.row_place-i.ensures.1 ∙ row_is e) (shape_is e)
 
 pub returns-then-g-gt0 : goal.returns-then-g-gt0
 returns-then-g-gt0 c =
-    let g = c.before.shape_refusal-g in
+    let g = c.shape_refusal-g in
     ap P.Refused (read_back (told c.before) g.type_inv) ∙ sym (answer-refused _ (refused (told c.before) g.type_inv c.if-g-gt0.true))
 
 pub overflow_cast-row : goal.overflow_cast-row
@@ -94,15 +93,14 @@ overflow_cast-shape c = let n = (asks c.before.before.before.before).shape_in in
 
 pub stands-requires : goal.stands-requires
 stands-requires c =
-    let r = c.before.before.before in
-    let e = r.before in
+    let e = c.before.before.before.before in
     let a = asks e in
     let table = accepted-table (block e) (t e) a.accepted in
     record {
       accepted = accepted-block (block e) (t e) a.accepted;
       table = table;
-      outline = c.before.draw.ensures;
-      row = r.row_place-i.ensures.0;
+      outline = c.draw.ensures;
+      row = c.row_place-i.ensures.0;
       shape = subst (Boxed (block e)) (sym (shape_is e)) a.boxed;
     }
 

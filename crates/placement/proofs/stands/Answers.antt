@@ -16,33 +16,28 @@ abbrev After-holds : Type 0
 After-holds = lts.After-holds tie.the-claims reads.Pre reads.Post
 
 -- what the box test says
-boxed : (c : After-holds) → let s = c.before.before.before in
-    (in_ranges s.args.block.now s.args.table.now s.args.i.number s.args.p
-    && rooms_hold s.args.block.now s.args.i.number s.args.s s.args.p) ≡ c.holds.result
+boxed : (c : After-holds) → (in_ranges c.args.block.now c.args.table.now c.args.i.number c.args.p
+    && rooms_hold c.args.block.now c.args.i.number c.args.s c.args.p) ≡ c.holds.result
 boxed c =
-    let cut = c.before in
-    sym (cut.cut_box-cut.ensures.is _)
-    ∙ ap (λ (n : ℕ). in_area n cut.cut_box-cut.result cut.before.before.args.p) (sym cut.before.axes_of-k.ensures) ∙ sym c.holds.ensures
+    sym (c.cut_box-cut.ensures.is _)
+    ∙ ap (λ (n : ℕ). in_area n c.cut_box-cut.result c.args.p) (sym c.axes_of-k.ensures) ∙ sym c.holds.ensures
 
 pub returns-then-not-holds : goal.returns-then-not-holds
 unfolding allowed
 returns-then-not-holds c =
-    let s = c.before.before.before.before in
-    ap (λ (b : Bool). b && not (forbidden s.args.block.now s.args.table.now s.args.i.number s.args.s s.args.p))
+    ap (λ (b : Bool). b && not (forbidden c.args.block.now c.args.table.now c.args.i.number c.args.s c.args.p))
     (sym (not-true _ c.if-not-holds.true-raw) ∙ sym (boxed c.before))
 
 pub forbidding_region-x-requires : goal.forbidding_region-x-requires
 forbidding_region-x-requires c =
-    let h = c.before in
-    let s = h.before.before.before in
-    let w = s.requires in (
+    let w = c.requires in (
       record {
         accepted = w.accepted;
         table = w.table;
         outline = w.outline;
         own = w.shape;
-        near = in_small _ _ h.before.cut_box-cut.ensures.small
-            (ap (λ (n : ℕ). in_area n h.before.cut_box-cut.result s.args.p) (sym h.before.before.axes_of-k.ensures) ∙ sym h.holds.ensures
+        near = in_small _ _ c.cut_box-cut.ensures.small
+            (ap (λ (n : ℕ). in_area n c.cut_box-cut.result c.args.p) (sym c.axes_of-k.ensures) ∙ sym c.holds.ensures
             ∙ not-false _ c.if-not-holds.false-raw);
       },
       w.row,
@@ -52,4 +47,4 @@ pub returns : goal.returns
 unfolding allowed
 returns c =
     let h = c.before.before in
-    ap₂ ◌&&◌ (sym (not-false _ c.before.if-not-holds.false-raw) ∙ sym (boxed h)) (ap not c.forbidding_region-x.ensures.hit)
+    ap₂ ◌&&◌ (sym (not-false _ c.if-not-holds.false-raw) ∙ sym (boxed h)) (ap not c.forbidding_region-x.ensures.hit)

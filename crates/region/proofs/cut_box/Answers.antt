@@ -6,7 +6,7 @@ use Rattle.region.proofs.cut_box.Goals as goal
 
 pub cut_by_rooms-requires : goal.cut_by_rooms-requires
 cut_by_rooms-requires c =
-    let p = c.before.before.requires in (
+    let p = c.requires in (
       record {
         accepted = p.accepted;
         outline = p.outline;
@@ -18,8 +18,6 @@ cut_by_rooms-requires c =
 
 pub returns : goal.returns
 returns c =
-    let r = c.before.before.before in
-    let e = r.before.before in
-    let p = e.before.requires in
+    let p = c.requires in
     rw c.area_at.ensures
-    (cut-is e.before.args.block.now p.accepted.head p.table p.row e.range_ends-ends.ensures r.cut_by_rooms.ensures)
+    (cut-is c.args.block.now p.accepted.head p.table p.row c.range_ends-ends.ensures c.cut_by_rooms.ensures)

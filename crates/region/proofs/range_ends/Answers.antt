@@ -18,6 +18,7 @@ use Rattle.points.specs.Area.{coordinates, area_words, area_of}
 use Rattle.points.proofs.Sums.{bits_back}
 use Rattle.points.proofs.Fills.{Fills, fills-ends-at, fills-ends}
 use borrow.Author.Rules.{rules}
+use Rattle.region.proofs.range_ends.Invariants.{in_range}
 use Rattle.region.proofs.range_ends.Lts as lts
 use Rattle.region.proofs.range_ends.Reads as reads
 use Rattle.region.proofs.range_ends.Tie as tie
@@ -25,10 +26,6 @@ use Rattle.region.proofs.range_ends.Goals as goal
 
 abbrev At-loop-d : Type 0
 At-loop-d = lts.At-loop tie.the-claims reads.Pre reads.Post goal.the-invariant-loop-d goal.the-decreases-loop-d
-
--- p lies in row i's range in dimension d
-abbrev in_range : List ℤ → List ℤ → ℕ → ℕ → List ℤ → Bool
-in_range block t i d p = within (low block t i d) (high block t i d) (word p d)
 
 pub axes_of-k-requires : goal.axes_of-k-requires
 axes_of-k-requires c = c.requires.0.head
@@ -46,8 +43,7 @@ loop-d-init c = (omega arith, search rules, fills-ends-at _ c.ends_at-ends.ensur
 pub returns-then-d-k : goal.returns-then-d-k
 unfolding in_ranges
 returns-then-d-k c =
-    let l = c.before.before in
-    rw (c.if-d-k.true ∙ l.before.before.axes_of-k.ensures) at l.loop-d.invariant.2.cuts
+    rw (c.if-d-k.true ∙ c.axes_of-k.ensures) at c.loop-d.invariant.2.cuts
 
 -- the dimension at hand is an axis, and the row's range there
 module _ (c : goal.Else-d-k) where
@@ -58,10 +54,10 @@ module _ (c : goal.Else-d-k) where
   top = l.before.before.before
 
   is-axis : l.loop-d.d < axes top.args.block.now
-  is-axis = omega (arith, l.before.before.axes_of-k.ensures, l.loop-d.invariant.0, c.if-d-k.false)
+  is-axis = omega (arith, l.axes_of-k.ensures, l.loop-d.invariant.0, c.if-d-k.false)
 
   few : l.loop-d.d < coordinates
-  few = c.before.loop-d-test.true
+  few = c.loop-d-test.true
 
 pub low_of-requires : goal.low_of-requires
 low_of-requires c = let s = top c in (s.requires.2, is-axis c)
@@ -84,22 +80,21 @@ offset_bounds-ends-d-in-loop-d c = omega (arith, few c.before.before)
 pub bounds-ends-d-in-loop-d : goal.bounds-ends-d-in-loop-d
 bounds-ends-d-in-loop-d c =
     let e = c.before.before in
-    omega (arith, few e, length-set (l e).loop-d.ends (l e).loop-d.d (to_z w64 (of_z w64 c.before.low_of.result)))
+    omega (arith, few e, length-set (l e).loop-d.ends (l e).loop-d.d (to_z w64 (of_z w64 c.low_of.result)))
 
 pub overflow_add-d : goal.overflow_add-d
 overflow_add-d c = omega (arith, few c.before.before)
 
 pub loop-d-smaller : goal.loop-d-smaller
-loop-d-smaller c = omega (arith, (l c.before.before).loop-d.invariant.0, c.before.before.if-d-k.false)
+loop-d-smaller c = omega (arith, (l c.before.before).loop-d.invariant.0, c.if-d-k.false)
 
 pub loop-d-preserved : goal.loop-d-preserved
 loop-d-preserved c =
-    let m = c.before in
-    let e = m.before in
+    let e = c.before.before in
     let i = (l e).loop-d.invariant in
     let s = top e in
     let j = s.requires.2 in
-    let lo = bits_back m.low_of.type_inv ∙ m.low_of.ensures in
+    let lo = bits_back c.low_of.type_inv ∙ c.low_of.ensures in
     let hi = bits_back c.high_of.type_inv ∙ c.high_of.ensures in (
       omega (arith, i.0, e.if-d-k.false),
       simp length-set i.1,
@@ -112,8 +107,6 @@ loop-d-preserved c =
 pub returns : goal.returns
 unfolding in_ranges
 returns c =
-    let l = c.before in
-    let n = l.before.before in
-    let q : l.loop-d.d ≡ axes n.before.args.block.now =
-    omega (arith, n.axes_of-k.ensures, l.loop-d.invariant.0, n.before.requires.0.head.few_axes, c.loop-d-test.false) in
-    rw q at l.loop-d.invariant.2.cuts
+    let q : c.loop-d.d ≡ axes c.args.block.now =
+    omega (arith, c.axes_of-k.ensures, c.loop-d.invariant.0, c.requires.0.head.few_axes, c.loop-d-test.false) in
+    rw q at c.loop-d.invariant.2.cuts

@@ -20,6 +20,10 @@ use Rattle.points.proofs.Fills.{Fills, fills-ends-at, fills-ends}
 use borrow.Author.Rules.{rules}
 use Rattle.region.proofs.range_ends.Given as goal
 
+-- p lies in row i's range in dimension d
+abbrev pub in_range : List ℤ → List ℤ → ℕ → ℕ → List ℤ → Bool
+in_range block t i d p = within (low block t i d) (high block t i d) (word p d)
+
 abbrev pub invariant-loop-d : goal.invariant-loop-d
 invariant-loop-d l = (l.d ≤ l.k) × (length l.ends ≡ area_words) × Fills (axes (l.block)) l.d (area_of l.ends) (in_range (l.block) l.table l.i.number)
 

@@ -50,22 +50,22 @@ module _ (c : goal.After-compared-s) where
   first : c1.compared-p.result ≡ index_of (compared start.args.x.end start.args.y.start)
   first =
       back start.args.x.end start.args.y.start
-      c1.before.before.struct_told-1.given.1.0.1 c1.before.struct_told-2-1.given.0.1 c1.compared-p.ensures
+      c1.struct_told-1.given.1.0.1 c1.struct_told-2-1.given.0.1 c1.compared-p.ensures
 
   second : c2.compared-q.result ≡ index_of (compared start.args.x.start start.args.y.end)
   second =
       back start.args.x.start start.args.y.end
-      c2.before.before.struct_told-3-1.given.0.1 c2.before.struct_told-4-1.given.1.0.1 c2.compared-q.ensures
+      c2.struct_told-3-1.given.0.1 c2.struct_told-4-1.given.1.0.1 c2.compared-q.ensures
 
   third : c3.compared-r.result ≡ index_of (compared start.args.x.start start.args.y.start)
   third =
       back start.args.x.start start.args.y.start
-      c3.before.before.struct_told-5-1.given.0.1 c3.before.struct_told-6-1.given.0.1 c3.compared-r.ensures
+      c3.struct_told-5-1.given.0.1 c3.struct_told-6-1.given.0.1 c3.compared-r.ensures
 
   fourth : c.compared-s.result ≡ index_of (compared start.args.x.end start.args.y.end)
   fourth =
       back start.args.x.end start.args.y.end
-      c.before.before.struct_told-7-1.given.1.0.1 c.before.struct_told-8-1.given.1.0.1 c.compared-s.ensures
+      c.struct_told-7-1.given.1.0.1 c.struct_told-8-1.given.1.0.1 c.compared-s.ensures
 
   small : (c1.compared-p.result < 3) × (c2.compared-q.result < 3) × (c3.compared-r.result < 3) × (c.compared-s.result < 3)
   small = (rw first (index_below _), rw second (index_below _), rw third (index_below _), rw fourth (index_below _))

@@ -10,12 +10,12 @@ use Rattle.relate.proofs.compared.Goals as goal
 
 pub returns-then-x-y : goal.returns-then-x-y
 unfolding index_of
-returns-then-x-y c = let a = c.before.args in let e : lt_z a.x a.y ≡ true = omega ints in sym (ap index_of (compared_is (is-less e)))
+returns-then-x-y c = let a = c.args in let e : lt_z a.x a.y ≡ true = omega ints in sym (ap index_of (compared_is (is-less e)))
 
 pub returns-then-y-x : goal.returns-then-y-x
 unfolding index_of
-returns-then-y-x c = let a = c.before.before.args in let e : lt_z a.y a.x ≡ true = omega ints in sym (ap index_of (compared_is (is_greater e)))
+returns-then-y-x c = let a = c.args in let e : lt_z a.y a.x ≡ true = omega ints in sym (ap index_of (compared_is (is_greater e)))
 
 pub returns : goal.returns
 unfolding index_of
-returns c = let a = c.before.before.args in let e : eq_z a.x a.y ≡ true = omega ints in sym (ap index_of (compared_is (is-equal e)))
+returns c = let a = c.args in let e : eq_z a.x a.y ≡ true = omega ints in sym (ap index_of (compared_is (is-equal e)))

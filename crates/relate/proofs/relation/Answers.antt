@@ -29,10 +29,10 @@ After-refusal-g = lts.After-refusal tie.the-claims reads.Pre reads.Post
 abbrev Start : Type 0
 Start = lts.Start tie.the-claims reads.Pre reads.Post
 
-told : (c : After-refusal-g) → let a = c.before.args in
+told : (c : After-refusal-g) → let a = c.args in
     c.refusal-g.result ≡ pos (refusal_relation a.block.now a.table.now a.row a.other a.dimension)
 told c =
-    let f = c.before.ranges in
+    let f = c.ranges in
     simp (to_z-of_z f.row, to_z-of_z f.other, to_z-of_z f.dimension) at c.refusal-g.ensures
 
 module _ (e : goal.Else-g-gt0) where
@@ -40,13 +40,13 @@ module _ (e : goal.Else-g-gt0) where
   top = e.before.before
 
   abbrev block : List ℤ
-  block = e.before.before.args.block.now
+  block = e.args.block.now
 
   abbrev t : List ℤ
-  t = e.before.before.args.table.now
+  t = e.args.table.now
 
   no-refusal : refusal_relation block t top.args.row top.args.other top.args.dimension ≡ 0
-  no-refusal = accepted (told e.before) e.before.refusal-g.type_inv e.if-g-gt0.false
+  no-refusal = accepted (told e.before) e.refusal-g.type_inv e.if-g-gt0.false
 
   asks : PairAsked block t top.args.row top.args.other top.args.dimension
   asks = pair-asked block t top.args.row top.args.other top.args.dimension no-refusal
@@ -68,21 +68,19 @@ IsExtent e x row =
 
 first : (x : goal.After-of_row) → let e = x.before.before.before in IsExtent e x.of_row.result (top e).args.row
 first x =
-    let r = x.before.before in
-    let e = r.before in
-    let i = r.row_place-i.ensures.1 ∙ row_is e in
+    let e = x.before.before.before in
+    let i = x.row_place-i.ensures.1 ∙ row_is e in
     (x.of_row.ensures.0 ∙ ap₂ (lowest_start _ _) i (dim-is e), x.of_row.ensures.1 ∙ ap₂ (highest_end _ _) i (dim-is e))
 
 second : (x : goal.After-of_row-2) → let e = x.before.before.before.before in IsExtent e x.of_row-2.result (top e).args.other
 second x =
-    let r = x.before.before in
-    let e = r.before.before in
-    let j = r.row_place-j.ensures.1 ∙ other-is e in
+    let e = x.before.before.before.before in
+    let j = x.row_place-j.ensures.1 ∙ other-is e in
     (x.of_row-2.ensures.0 ∙ ap₂ (lowest_start _ _) j (dim-is e), x.of_row-2.ensures.1 ∙ ap₂ (highest_end _ _) j (dim-is e))
 
 pub returns-then-g-gt0 : goal.returns-then-g-gt0
 returns-then-g-gt0 c =
-    let g = c.before.refusal-g in
+    let g = c.refusal-g in
     ap R.Refused (read_back (told c.before) g.type_inv) ∙ sym (answer-refused _ (refused (told c.before) g.type_inv c.if-g-gt0.true))
 
 pub overflow_cast-d : goal.overflow_cast-d
@@ -118,7 +116,7 @@ of_row-requires c =
     record {
       accepted = accepted-block (block e) (t e) a.accepted;
       table = accepted-table (block e) (t e) a.accepted;
-      row = c.before.row_place-i.ensures.0;
+      row = c.row_place-i.ensures.0;
       dim = rw (dim-is e) a.dim_below;
     }
 
@@ -129,7 +127,7 @@ of_row-requires-2 c =
     record {
       accepted = accepted-block (block e) (t e) a.accepted;
       table = accepted-table (block e) (t e) a.accepted;
-      row = c.before.row_place-j.ensures.0;
+      row = c.row_place-j.ensures.0;
       dim = rw (dim-is e) a.dim_below;
     }
 

@@ -32,10 +32,10 @@ After-struct_told-1 = lts.After-struct_told tie.the-claims reads.Pre reads.Post 
 -- the words in use lie within the two arrays
 module _ (c : After-read_text-r) where
   block_in : c.read_text-r.result.block_len ≤ length c.read_text-r.result.block
-  block_in = block_room c.before.before.args.text.now c.read_text-r.result c.read_text-r.ensures
+  block_in = block_room c.args.text.now c.read_text-r.result c.read_text-r.ensures
 
   table-in : c.read_text-r.result.table_len ≤ length c.read_text-r.result.table
-  table-in = table-room c.before.before.args.text.now c.read_text-r.result c.read_text-r.ensures
+  table-in = table-room c.args.text.now c.read_text-r.result c.read_text-r.ensures
 
   block-long : c.read_text-r.result.block_len ≡ length (take c.read_text-r.result.block_len c.read_text-r.result.block)
   block-long = sym (length-take-le _ c.read_text-r.result.block block_in)
@@ -43,7 +43,7 @@ module _ (c : After-read_text-r) where
   table-long : c.read_text-r.result.table_len ≡ length (take c.read_text-r.result.table_len c.read_text-r.result.table)
   table-long = sym (length-take-le _ c.read_text-r.result.table table-in)
 
-table-full : (c : After-struct_told-1) → length c.before.read_text-r.result.table ≡ table_most
+table-full : (c : After-struct_told-1) → length c.read_text-r.result.table ≡ table_most
 table-full c = search rules
 
 pub slice_bounds-b-end : goal.slice_bounds-b-end
@@ -60,15 +60,13 @@ slice_bounds-write_answer-end-then-g-gt0 c = table-long c.before.before.before.b
 
 pub returns-then-g-gt0 : goal.returns-then-g-gt0
 returns-then-g-gt0 c =
-    let if1 = c.before.before.before.before in
-    let d = if1.before.before.before.before in
-    let text = d.before.before.args.text.now in
-    let r = d.read_text-r.result in
+    let text = c.args.text.now in
+    let r = c.read_text-r.result in
     let f : SFits w64 r.refusal = search rules in
-    let h : pos 0 <ℤ r.refusal = omega (ints, if1.if-g-gt0.true) in
+    let h : pos 0 <ℤ r.refusal = omega (ints, c.if-g-gt0.true) in
     answered text (Refused (to_z w64 (of_z w64 r.refusal))) (block_in r) (table_in r) c.write_answer.ensures (search rules)
     (ap (λ (z : ℤ). printed_of (Refused z) (block_in r) (take table_most (table_in r))) (to_z-of_z f)
-    ∙ printed-refused text r d.read_text-r.ensures h (block_in r) (take table_most (table_in r)))
+    ∙ printed-refused text r c.read_text-r.ensures h (block_in r) (take table_most (table_in r)))
 
 pub slice_bounds-b-end-2 : goal.slice_bounds-b-end-2
 slice_bounds-b-end-2 c = block_in c.before.before.before.before
@@ -94,7 +92,7 @@ module _ (c : goal.After-t-3-1) where
   read = c.before.before.before.before.before.before.before.before
 
   abbrev left : List ℤ
-  left = c.before.settle-found.new.table
+  left = c.settle-found.new.table
 
   left-long : length left ≡ read.read_text-r.result.table_len
   left-long = c.t-3-1.given ∙ sym (table-long read)
@@ -110,14 +108,13 @@ slice_bounds-write_answer-end-3 c =
 pub returns : goal.returns
 returns c =
     let t4 = c.before.before.before.before in
-    let settle = t4.before.settle-found in
-    let if1 = t4.before.before.before.before in
+    let settle = t4.settle-found in
     let d = read t4 in
-    let text = d.before.before.args.text.now in
+    let text = d.args.text.now in
     let r = d.read_text-r.result in
     let f : SFits w64 r.refusal = search rules in
-    let h : r.refusal ≤ℤ pos 0 = omega (ints, if1.if-g-gt0.false) in
-    let few : length (left t4) ≤ table_most = omega (arith, left-long t4, table-in d, table-full if1.before.before.before) in
+    let h : r.refusal ≤ℤ pos 0 = omega (ints, t4.if-g-gt0.false) in
+    let few : length (left t4) ≤ table_most = omega (arith, left-long t4, table-in d, table-full t4.before.before.before.before.before.before.before) in
     let n = r.table_len in
     answered text settle.result (block_in r) (take n (left t4 ++ drop n r.table)) c.write_answer-2.ensures (search rules)
     (ap (λ (t : List ℤ). printed_of settle.result (block_in r) (take table_most t)) (front (left t4) r.table n (left-long t4))

@@ -25,9 +25,8 @@ refused-few = printed-few (Refused (pos 1)) [] [] (omega arith)
 pub returns-then-not-whole : goal.returns-then-not-whole
 unfolding response
 returns-then-not-whole c =
-    let b = c.before.before in
-    let room : length b.before.before.args.out.now ≡ answer_most = search rules in
-    rw (not-true b.before.before.args.whole b.if-not-whole.true-raw)
+    let room : length c.args.out.now ≡ answer_most = search rules in
+    rw (not-true c.args.whole c.if-not-whole.true-raw)
     (c.put_refused.ensures, put-counts c.put_refused.ensures (omega (arith, refused-few)))
 
 pub answer-requires : goal.answer-requires
@@ -36,5 +35,4 @@ answer-requires c = tt
 pub returns : goal.returns
 unfolding response
 returns c =
-    let b = c.before.before in
-    rw (not-false b.before.before.args.whole b.if-not-whole.false-raw) c.answer.ensures
+    rw (not-false c.args.whole c.if-not-whole.false-raw) c.answer.ensures

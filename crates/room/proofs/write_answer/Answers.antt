@@ -9,15 +9,15 @@ use Rattle.room.proofs.write_answer.Goals as goal
 
 pub returns-in-Settled : goal.returns-in-Settled
 unfolding printed_of
-returns-in-Settled c = rw c.before.before.before.before.enum_told-1.given.1 c.before.before.put_settled.ensures
+returns-in-Settled c = rw c.enum_told-1.given.1 c.put_settled.ensures
 
 pub returns-in-NoLayout : goal.returns-in-NoLayout
 unfolding printed_of printed_for ascii
-returns-in-NoLayout c = rw c.before.before.before.before.before.enum_told-in-NoLayout-1.given.1 c.before.before.put_bytes.ensures
+returns-in-NoLayout c = rw c.enum_told-in-NoLayout-1.given.1 c.put_bytes.ensures
 
 pub returns-in-Refused : goal.returns-in-Refused
 unfolding printed_of
 returns-in-Refused c =
-    let told = c.before.before.before.before.before.finding-1.given in
+    let told = c.finding-1.given in
     let f : SFits w64 told.0.0 = search rules in
-    rw told.1 (rw (to_z-of_z f) at c.before.before.put_refused.ensures)
+    rw told.1 (rw (to_z-of_z f) at c.put_refused.ensures)

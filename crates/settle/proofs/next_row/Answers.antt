@@ -27,12 +27,10 @@ bounds-due-m c = omega arith
 
 pub returns-then-due-m-eq1 : goal.returns-then-due-m-eq1
 returns-then-due-m-eq1 c =
-    let r = c.before.before in
-    let s = r.before.before.before in
-    let w = r.wrapped-m.ensures.0 in
+    let w = c.wrapped-m.ensures.0 in
     record {
       upto = omega arith;
-      set = λ h. todo-taken s.args.due.now r.wrapped-m.result c.before.t9-1.given c.if-due-m-eq1.true;
+      set = λ h. todo-taken c.args.due.now c.wrapped-m.result c.t9-1.given c.if-due-m-eq1.true;
       none = λ e. absurd (omega arith);
     }
 
@@ -44,26 +42,24 @@ loop-j-smaller c = omega arith
 
 pub loop-j-preserved : goal.loop-j-preserved
 loop-j-preserved c =
-    let l = c.before.before.before.before in
-    let a = l.before.args in
-    let w = c.before.before.wrapped-m in (
+    let a = c.args in
+    let w = c.wrapped-m in (
       omega arith,
       λ m i h k r.
           ⊎_elim
           (λ e.
           let q = around-same k w.ensures.0 (subst (λ (x : ℕ). Around a.n (a.at + x) m) e r) w.ensures.1 in
           subst (λ (x : ℕ). todo a.due.now x ≡ false) (sym q) (todo-left a.due.now w.result c.if-due-m-eq1.false))
-          (λ b. l.loop-j.invariant.1 m i b k r)
-          (last_or (subst (λ (x : ℕ). i < x) (add-one l.loop-j.j) h)),
+          (λ b. c.loop-j.invariant.1 m i b k r)
+          (last_or (subst (λ (x : ℕ). i < x) (add-one c.loop-j.j) h)),
     )
 
 pub returns : goal.returns
 returns c =
-    let s = c.before.before in
     record {
       upto = omega arith;
       set = λ h. absurd (omega arith);
       none = λ e m h.
-          let i = around-met {m = m} s.requires.1 h in
-          c.before.loop-j.invariant.1 m i.0 (omega (arith, i.1, c.loop-j-test.false)) h i.2;
+          let i = around-met {m = m} c.requires.1 h in
+          c.loop-j.invariant.1 m i.0 (omega (arith, i.1, c.loop-j-test.false)) h i.2;
     }

@@ -35,16 +35,15 @@ After-draw = lts.After-draw tie.the-claims reads.Pre reads.Post
 
 pub returns-then-g-gt0 : goal.returns-then-g-gt0
 returns-then-g-gt0 c =
-    let d = c.before in
-    let a = d.before.before.args in
+    let a = c.args in
     let o = settle_of a.block.now a.table.now in
-    let w = answer-refused a.table.now o (refused d.refusal-g.ensures d.refusal-g.type_inv c.if-g-gt0.true) in
-    (ap Refused (read_back d.refusal-g.ensures d.refusal-g.type_inv) ∙ w.0, w.1)
+    let w = answer-refused a.table.now o (refused c.refusal-g.ensures c.refusal-g.type_inv c.if-g-gt0.true) in
+    (ap Refused (read_back c.refusal-g.ensures c.refusal-g.type_inv) ∙ w.0, w.1)
 
 -- the sheet is accepted
 module _ (e : Else-g-gt0) where
   abbrev s : Start
-  s = e.before.before.before
+  s = e.before.before
 
   abbrev block : List ℤ
   block = s.args.block.now
@@ -53,7 +52,7 @@ module _ (e : Else-g-gt0) where
   t = s.args.table.now
 
   passed : refusal block t ≡ 0
-  passed = accepted e.before.refusal-g.ensures e.before.refusal-g.type_inv e.if-g-gt0.false
+  passed = accepted e.refusal-g.ensures e.refusal-g.type_inv e.if-g-gt0.false
 
   is_block : Block block
   is_block = accepted-block block t passed
@@ -70,17 +69,16 @@ draw-requires c = is_block c.before
 
 pub most-most-requires : goal.most-most-requires
 most-most-requires c =
-    let d = c.before.before in
-    let e = d.before.before in
-    ((is_block e).head, (table e).whole, d.draw.ensures.rules.count)
+    let e = c.before.before.before in
+    ((is_block e).head, (table e).whole, c.draw.ensures.rules.count)
 
 -- the outline that was drawn
 module _ (m : After-most-most) where
   abbrev drawn : After-draw
-  drawn = m.before.before.before
+  drawn = m.before.before
 
   abbrev checked : Else-g-gt0
-  checked = m.before.before.before.before.before
+  checked = m.before.before.before.before
 
 pub settle_in-requires : goal.settle_in-requires
 settle_in-requires c =
@@ -89,8 +87,7 @@ settle_in-requires c =
 
 pub returns-then-most-le-FEW : goal.returns-then-most-le-FEW
 returns-then-most-le-FEW c =
-    let w = c.before.before in
-    promised (checked w.before.before.before.before.before) w.settle_in.result w.settle_in.new.table w.settle_in.ensures
+    promised (checked c.before.before.before.before.before.before.before) c.settle_in.result c.settle_in.new.table c.settle_in.ensures
 
 pub settle_in-requires-2 : goal.settle_in-requires-2
 settle_in-requires-2 c =
@@ -99,5 +96,4 @@ settle_in-requires-2 c =
 
 pub returns : goal.returns
 returns c =
-    let w = c.before.before in
-    promised (checked w.before.before.before.before.before) w.settle_in-2.result w.settle_in-2.new.table w.settle_in-2.ensures
+    promised (checked c.before.before.before.before.before.before.before) c.settle_in-2.result c.settle_in-2.new.table c.settle_in-2.ensures

@@ -42,12 +42,12 @@ pub slice_bounds-copy-end : goal.slice_bounds-copy-end
 slice_bounds-copy-end c = sym (length-take-le _ (replicate table_most (pos 0)) (short c.before))
 
 pub copy-requires : goal.copy-requires
-copy-requires c = length-take-le _ (replicate table_most (pos 0)) (short c.before.before)
+copy-requires c = length-take-le _ (replicate table_most (pos 0)) (short c.before)
 
 -- the copy, after its first words came back from `copy`
 module _ (f : After-copy) where
   abbrev s : goal.Start
-  s = f.before.before.before
+  s = f.before.before
 
   abbrev work : List ℤ
   work = f.copy.new.to ++ drop (length (t s)) (replicate table_most (pos 0))
@@ -78,11 +78,11 @@ module _ (g : After-work-4-1) where
   f = g.before.before.before.before.before
 
   abbrev left : List ℤ
-  left = g.before.settle_rows.new.table
+  left = g.settle_rows.new.table
 
-  found : FoundBy (block (s f)) (t (s f)) g.before.settle_rows.result left
+  found : FoundBy (block (s f)) (t (s f)) g.settle_rows.result left
   found =
-      subst (λ (x : List ℤ). FoundBy (block (s f)) x g.before.settle_rows.result left) (same f) g.before.settle_rows.ensures
+      subst (λ (x : List ℤ). FoundBy (block (s f)) x g.settle_rows.result left) (same f) g.settle_rows.ensures
 
   left-long : length left ≡ length (t (s f))
   left-long = g.work-4-1.given ∙ ap length (same f)
@@ -107,7 +107,6 @@ copy-requires-2 c = let g = c.before.before.before.before in sym (ap length (fro
 
 pub returns : goal.returns
 returns c =
-    let d = c.before.before.before.before in
-    let g = d.before.before in
-    let a = answer-some (t (s (f g))) refl ((found g).yes (not-false d.if-not-settle_rows.false-raw)) in
-    (a.0, c.before.copy-2.ensures ∙ front-left g ∙ a.1)
+    let g = c.before.before.before.before.before.before in
+    let a = answer-some (t (s (f g))) refl ((found g).yes (not-false c.if-not-settle_rows.false-raw)) in
+    (a.0, c.copy-2.ensures ∙ front-left g ∙ a.1)

@@ -37,7 +37,7 @@ all_set m h = todo-yes (replicate rows_most (pos 1)) m (get_or-replicate 32 m (p
 -- what is known where the loop starts a turn
 module _ (l : At-loop-known) where
   abbrev s : goal.Start
-  s = l.before.before.before
+  s = l.before.before
 
   abbrev block : List ℤ
   block = s.args.block.now
@@ -45,46 +45,45 @@ module _ (l : At-loop-known) where
   dims : 0 < axes block
   dims = s.requires.0.head.some_axes
 
-  few : l.before.rows_of-n.result ≤ rows_most
+  few : l.rows_of-n.result ≤ rows_most
   few = omega (arith, s.requires.1.whole.few_rows, l.loop-known.invariant.1)
 
   table : Table block l.loop-known.table
   table = l.loop-known.invariant.0.way.good.table
 
 -- a row is to be narrowed
-not_last : (e : goal.Else-i-n) → e.before.next_row-i.result < e.before.before.before.before.rows_of-n.result
-not_last e = ⊎_elim (λ q. absurd (e.if-i-n.false q)) (λ h. h) (eq-or-lt_of_le e.before.next_row-i.ensures.upto)
+not_last : (e : goal.Else-i-n) → e.next_row-i.result < e.rows_of-n.result
+not_last e = ⊎_elim (λ q. absurd (e.if-i-n.false q)) (λ h. h) (eq-or-lt_of_le e.next_row-i.ensures.upto)
 
 -- and was narrowed
 module _ (d : After-narrow_row) where
   abbrev e : goal.Else-i-n
-  e = d.before.before.before.before.before.before
+  e = d.before.before.before.before.before
 
   abbrev l : At-loop-known
   l = e.before.before.before
 
-  turn : Turn (block l) (s l).args.table.now l.loop-known.table d.narrow_row.new.table l.loop-known.due e.before.next_row-i.result
-      d.before.before.before.before.row_place-row.result.number d.narrow_row.result
+  turn : Turn (block l) (s l).args.table.now l.loop-known.table d.narrow_row.new.table l.loop-known.due e.next_row-i.result
+      d.row_place-row.result.number d.narrow_row.result
   turn =
       record {
         dims = dims l;
         way = l.loop-known.invariant.0;
         below = omega (arith, not_last e, l.loop-known.invariant.1);
         few = (s l).requires.1.whole.few_rows;
-        number = d.before.before.before.before.row_place-row.ensures.1;
+        number = d.row_place-row.ensures.1;
         told = d.narrow_row.ensures.0;
         left = d.narrow_row.ensures.1;
       }
 
 pub rows_of-n-requires : goal.rows_of-n-requires
-rows_of-n-requires c = c.before.requires.0.head
+rows_of-n-requires c = c.requires.0.head
 
 pub loop-known-init : goal.loop-known-init
 loop-known-init c =
-    let s = c.before.before in
-    let block = s.args.block.now in (
-      worked-start block s.requires.0.head.some_axes s.args.table.now _ (record { table = s.requires.1; as_long = refl })
-          (λ m h. all_set m (omega (arith, s.requires.1.whole.few_rows))),
+    let block = c.args.block.now in (
+      worked-start block c.requires.0.head.some_axes c.args.table.now _ (record { table = c.requires.1; as_long = refl })
+          (λ m h. all_set m (omega (arith, c.requires.1.whole.few_rows))),
       c.rows_of-n.ensures,
       omega arith,
       refl,
@@ -92,59 +91,57 @@ loop-known-init c =
     )
 
 pub slice_bounds-next_row-end : goal.slice_bounds-next_row-end
-slice_bounds-next_row-end c = sym c.before.loop-known.invariant.4
+slice_bounds-next_row-end c = sym c.loop-known.invariant.4
 
 pub next_row-i-requires : goal.next_row-i-requires
 next_row-i-requires c = let l = c.before in (few l, l.loop-known.invariant.2, l.loop-known.invariant.4)
 
 pub shape_of-table-then-i-n : goal.shape_of-table-then-i-n
-shape_of-table-then-i-n c = c.before.before.before.loop-known.invariant.0.way.good.as_long
+shape_of-table-then-i-n c = c.loop-known.invariant.0.way.good.as_long
 
 pub shape_of-suspects-then-i-n : goal.shape_of-suspects-then-i-n
-shape_of-suspects-then-i-n c = c.before.before.before.loop-known.invariant.3
+shape_of-suspects-then-i-n c = c.loop-known.invariant.3
 
 pub returns-then-i-n : goal.returns-then-i-n
 returns-then-i-n c =
     let l = c.before.before.before in
     record {
       yes = λ e. worked-end (block l) (dims l) (s l).args.table.now l.loop-known.table l.loop-known.due l.loop-known.invariant.0
-          (λ m h. c.before.next_row-i.ensures.none c.if-i-n.true m (omega (arith, h, l.loop-known.invariant.1)));
+          (λ m h. c.next_row-i.ensures.none c.if-i-n.true m (omega (arith, h, l.loop-known.invariant.1)));
       no = λ e. clash refl e;
     }
 
 pub overflow_add-i : goal.overflow_add-i
-overflow_add-i c = omega (arith, not_last c.before, few c.before.before.before.before)
+overflow_add-i c = omega (arith, not_last c, few c.before.before.before)
 
 pub row_place-row-requires : goal.row_place-row-requires
 row_place-row-requires c =
-    let l = c.before.before.before.before in
+    let l = c.before.before.before in
     let n = rows_same (block l) l.loop-known.table (s l).args.table.now l.loop-known.invariant.0.way.good.as_long in
-    ((s l).requires.0.head, (table l).whole, up_next (omega (arith, not_last c.before, l.loop-known.invariant.1, n)))
+    ((s l).requires.0.head, (table l).whole, up_next (omega (arith, not_last c, l.loop-known.invariant.1, n)))
 
 pub narrow_row-requires : goal.narrow_row-requires
 narrow_row-requires c =
-    let r = c.before.before.before in
-    let l = r.before.before.before.before.before in
-    record { accepted = (s l).requires.0; table = table l; outline = (s l).requires.2; row = r.row_place-row.ensures.0 }
+    let l = c.before.before.before.before.before.before.before in
+    record { accepted = (s l).requires.0; table = table l; outline = (s l).requires.2; row = c.row_place-row.ensures.0 }
 
 pub shape_of-table-in-NoPlace : goal.shape_of-table-in-NoPlace
-shape_of-table-in-NoPlace c = c.before.before.before.table-1.given ∙ (l c.before.before.before.before).loop-known.invariant.0.way.good.as_long
+shape_of-table-in-NoPlace c = c.table-1.given ∙ (l c.before.before.before.before).loop-known.invariant.0.way.good.as_long
 
 pub shape_of-suspects-in-NoPlace : goal.shape_of-suspects-in-NoPlace
-shape_of-suspects-in-NoPlace c = c.before.before.suspects-1.given ∙ (l c.before.before.before.before).loop-known.invariant.3
+shape_of-suspects-in-NoPlace c = c.suspects-1.given ∙ (l c.before.before.before.before).loop-known.invariant.3
 
 pub returns-in-NoPlace : goal.returns-in-NoPlace
 returns-in-NoPlace c = record { yes = λ e. clash e refl; no = λ e. turn-none (turn c.before.before.before.before) c.enum_told-1.given.1 }
 
 pub slice_bounds-touched-end : goal.slice_bounds-touched-end
-slice_bounds-touched-end c = sym (l c.before.before.before.before.before.before).loop-known.invariant.4
+slice_bounds-touched-end c = sym (l c.before.before.before.before.before).loop-known.invariant.4
 
 pub touched-requires : goal.touched-requires
 touched-requires c =
-    let told = c.before.before in
-    let d = told.before.before.before.before in
-    let place = d.before.before.before.before.row_place-row.ensures.0 in
-    let good = turn-good (turn d) told.enum_told-in-Moved-1.given.1 in
+    let d = c.before.before.before.before.before in
+    let place = d.row_place-row.ensures.0 in
+    let good = turn-good (turn d) c.enum_told-in-Moved-1.given.1 in
     let as_many = rows_same (block (l d)) d.narrow_row.new.table (s (l d)).args.table.now good.as_long in
     record {
       on = record {
@@ -173,8 +170,8 @@ pub loop-known-smaller : goal.loop-known-smaller
 loop-known-smaller c =
     let d = c.before.before.before in
     ⊎_elim
-    (λ a. still-less (turn d) a.1.given.1 a.2 ((e d).before.next_row-i.ensures.set (not_last (e d))))
-    (λ a. moved-less (turn d) a.1.given.1 (cleared c.in-NoPlace.due (e d).before.next_row-i.result))
+    (λ a. still-less (turn d) a.1.given.1 a.2 ((e d).next_row-i.ensures.set (not_last (e d))))
+    (λ a. moved-less (turn d) a.1.given.1 (cleared c.in-NoPlace.due (e d).next_row-i.result))
     c.in-NoPlace.branch
 
 pub loop-known-preserved : goal.loop-known-preserved
@@ -185,7 +182,7 @@ loop-known-preserved c =
           (λ a. turn_moved (turn d) a.1.given.1 a.6 (l d).loop-known.invariant.1 a.4.ensures)
           c.in-NoPlace.branch,
       (l d).loop-known.invariant.1,
-      (e d).before.next_row-i.ensures.upto,
-      c.before.suspects-1.given ∙ (l d).loop-known.invariant.3,
+      (e d).next_row-i.ensures.upto,
+      c.suspects-1.given ∙ (l d).loop-known.invariant.3,
       simp length-set (⊎_elim (λ a. ap length a.2 ∙ (l d).loop-known.invariant.4) (λ a. ap length a.6 ∙ a.5.given) c.in-NoPlace.branch),
     )

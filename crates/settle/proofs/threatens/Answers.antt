@@ -20,33 +20,29 @@ names_row-requires c =
 
 pub returns-then-not-names_row : goal.returns-then-not-names_row
 returns-then-not-names_row c e names =
-    let s = c.before.before in
-    clash names (ap (names_row s.args.block.now s.args.r.number) (sym (add-one s.args.m))
-    ∙ sym c.before.names_row.ensures ∙ not-true c.if-not-names_row.true-raw)
+    clash names (ap (names_row c.args.block.now c.args.r.number) (sym (add-one c.args.m))
+    ∙ sym c.names_row.ensures ∙ not-true c.if-not-names_row.true-raw)
 
 pub overflow_add-m-2 : goal.overflow_add-m-2
-overflow_add-m-2 c = let s = c.before.before in omega (arith, s.requires.2, s.requires.0.table.whole.few_rows)
+overflow_add-m-2 c = omega (arith, c.requires.2, c.requires.0.table.whole.few_rows)
 
 pub row_place-row-requires : goal.row_place-row-requires
 row_place-row-requires c =
-    let s = c.before.before in
-    (s.requires.0.accepted.head, s.requires.0.table.whole, up_next s.requires.2)
+    (c.requires.0.accepted.head, c.requires.0.table.whole, up_next c.requires.2)
 
 pub threatens_row-requires : goal.threatens_row-requires
 threatens_row-requires c =
-    let s = c.before.before.before in
-    let a = s.requires.0 in
+    let a = c.requires.0 in
     record {
       accepted = a.accepted;
       table = a.table;
       outline = a.outline;
-      rule = s.requires.1;
+      rule = c.requires.1;
       other = a.row;
       row = c.row_place-row.ensures.0;
     }
 
 pub returns : goal.returns
 returns c e names =
-    let s = c.before.before.before.before in
-    subst (λ (k : ℕ). HarmlessBy s.args.block.now s.args.table.now s.args.r.number s.args.i.number k)
-    (c.before.row_place-row.ensures.1 ∙ add-one s.args.m) (c.threatens_row.ensures e)
+    subst (λ (k : ℕ). HarmlessBy c.args.block.now c.args.table.now c.args.r.number c.args.i.number k)
+    (c.row_place-row.ensures.1 ∙ add-one c.args.m) (c.threatens_row.ensures e)

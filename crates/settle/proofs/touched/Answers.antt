@@ -28,41 +28,36 @@ pub rules_of-count-requires : goal.rules_of-count-requires
 rules_of-count-requires c = c.requires.on.accepted.head
 
 pub counting-counted-requires : goal.counting-counted-requires
-counting-counted-requires c = c.before.requires.on.outline.rules.count
+counting-counted-requires c = c.requires.on.outline.rules.count
 
 pub loop-r-init : goal.loop-r-init
-loop-r-init c = (omega arith, c.before.rules_of-count.ensures, untouched (λ m h q l. absurd (omega arith)), refl)
+loop-r-init c = (omega arith, c.rules_of-count.ensures, untouched (λ m h q l. absurd (omega arith)), refl)
 
 pub is_below-requires : goal.is_below-requires
 is_below-requires c =
-    let l = c.before in
-    omega (arith, c.loop-r-test.true, l.loop-r.invariant.1, l.before.before.before.requires.on.accepted.head.few_rules)
+    omega (arith, c.loop-r-test.true, c.loop-r.invariant.1, c.requires.on.accepted.head.few_rules)
 
 pub touched_if-requires : goal.touched_if-requires
 touched_if-requires c =
-    let i = c.before.before.before in
-    let l = i.before in
-    let s = l.before.before.before in (
-      record { on = s.requires.on; count = s.requires.count; long = l.loop-r.invariant.3 ∙ s.requires.long },
-      omega (arith, i.loop-r-test.true, l.loop-r.invariant.1),
+    (
+      record { on = c.requires.on; count = c.requires.count; long = c.loop-r.invariant.3 ∙ c.requires.long },
+      omega (arith, c.loop-r-test.true, c.loop-r.invariant.1),
     )
 
 pub overflow_add-r : goal.overflow_add-r
-overflow_add-r c = omega (arith, c.before.before.before.before.before.loop-r-test.true)
+overflow_add-r c = omega (arith, c.loop-r-test.true)
 
 pub loop-r-smaller : goal.loop-r-smaller
-loop-r-smaller c = omega (arith, c.before.before.before.before.before.loop-r-test.true)
+loop-r-smaller c = omega (arith, c.loop-r-test.true)
 
 pub loop-r-preserved : goal.loop-r-preserved
 loop-r-preserved c =
-    let i = c.before.before.before.before.before in
-    let l = i.before in
-    let a = l.before.before.before.args in (
-      omega (arith, i.loop-r-test.true),
-      l.loop-r.invariant.1,
+    let a = c.args in (
+      omega (arith, c.loop-r-test.true),
+      c.loop-r.invariant.1,
       touched-next {spared = λ q m. bit (word a.outline.now rules_at) q ≡ true → Spared a.block.now a.table.now a.i.number q m}
-          l.loop-r.invariant.2 c.before.touched_if.ensures,
-      c.due-1.given ∙ l.loop-r.invariant.3,
+          c.loop-r.invariant.2 c.touched_if.ensures,
+      c.due-1.given ∙ c.loop-r.invariant.3,
     )
 
 -- where every rule that counts was passed, a row that is not to be narrowed is spared by each rule
@@ -80,18 +75,17 @@ module _ (l : At-loop-r) where
       start.requires.on.outline.rules a.i.number (suc m) (λ q b k. spared q (passed q b k) k))
 
 pub shape_of-due-after-loop-r : goal.shape_of-due-after-loop-r
-shape_of-due-after-loop-r c = c.before.loop-r.invariant.3
+shape_of-due-after-loop-r c = c.loop-r.invariant.3
 
 pub returns-after-loop-r : goal.returns-after-loop-r
 returns-after-loop-r c = let l = c.before in spares l (λ q h k. omega (arith, c.loop-r-test.false, l.loop-r.invariant.1))
 
 pub shape_of-due-then-is_below : goal.shape_of-due-then-is_below
-shape_of-due-then-is_below c = c.before.before.before.loop-r.invariant.3
+shape_of-due-then-is_below c = c.loop-r.invariant.3
 
 pub returns-then-is_below : goal.returns-then-is_below
 returns-then-is_below c =
-    let b = c.before in
-    let l = b.before.before in
+    let l = c.before.before.before in
     spares l (λ q h k. ⊎_elim (λ m. m)
-    (λ m. clash k (bit_past _ (subst (λ (n : ℕ). n < 2 ^ l.loop-r.r) l.before.counting-counted.ensures (b.is_below.ensures.0 c.if-is_below.true)) m))
+    (λ m. clash k (bit_past _ (subst (λ (n : ℕ). n < 2 ^ l.loop-r.r) l.counting-counted.ensures (c.is_below.ensures.0 c.if-is_below.true)) m))
     (below_or q l.loop-r.r))

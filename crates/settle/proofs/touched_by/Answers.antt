@@ -20,12 +20,11 @@ pub offset_bounds-due-m : goal.offset_bounds-due-m
 offset_bounds-due-m c = omega (arith, few c.before.before)
 
 pub slice_copy_out-t-12 : goal.slice_copy_out-t-12
-slice_copy_out-t-12 c = omega (arith, few c.before.before, c.before.before.requires.0.long)
+slice_copy_out-t-12 c = omega (arith, few c.before.before, c.requires.0.long)
 
 pub threatens-requires : goal.threatens-requires
 threatens-requires c =
-    let s = c.before.before.before.before in
-    (s.requires.0.on, s.requires.1, omega (arith, s.requires.0.count, c.before.before.loop-m-test.true))
+    (c.requires.0.on, c.requires.1, omega (arith, c.requires.0.count, c.loop-m-test.true))
 
 pub offset_bounds-due-m-then-threatens : goal.offset_bounds-due-m-then-threatens
 offset_bounds-due-m-then-threatens c = omega (arith, few c.before.before.before.before.before.before)
@@ -43,19 +42,18 @@ loop-m-smaller c = omega arith
 
 pub loop-m-preserved : goal.loop-m-preserved
 loop-m-preserved c =
-    let l = c.before.before.before in
-    let a = l.before.args in
+    let a = c.args in
     let block = a.block.now in
-    let next = Setting a.due.now (Spared block a.table.now a.i.number a.r.number) (l.loop-m.m + 1) in
-    let long = l.loop-m.invariant.2 in
-    let now-set = l.loop-m.invariant.1 in (
+    let next = Setting a.due.now (Spared block a.table.now a.i.number a.r.number) (c.loop-m.m + 1) in
+    let long = c.loop-m.invariant.2 in
+    let now-set = c.loop-m.invariant.1 in (
       omega arith,
       ⊎_elim
-          (λ x. subst next (sym x.3) (setting-put now-set (omega (arith, long, l.before.requires.0.long, few l.before))))
+          (λ x. subst next (sym x.3) (setting-put now-set (omega (arith, long, c.requires.0.long, few c.before.before.before.before))))
           (⊎_elim
           (λ x. subst next (sym x.3) (setting-stay now-set (λ e kind names-i names. x.1.ensures x.2.left names)))
           (λ x. subst next (sym x.1) (setting-stay now-set
-          (λ e. clash (todo-taken l.loop-m.due l.loop-m.m c.before.t12-1.given x.0.left) e))))
+          (λ e. clash (todo-taken c.loop-m.due c.loop-m.m c.t12-1.given x.0.left) e))))
           c.if-due-m-ne1.branch,
       ⊎_elim
           (λ x. ap length x.3 ∙ simp length-set long)
@@ -64,7 +62,7 @@ loop-m-preserved c =
     )
 
 pub shape_of-due : goal.shape_of-due
-shape_of-due c = c.before.loop-m.invariant.2
+shape_of-due c = c.loop-m.invariant.2
 
 pub returns : goal.returns
-returns c = setting-done c.before.loop-m.invariant.1 c.loop-m-test.false
+returns c = setting-done c.loop-m.invariant.1 c.loop-m-test.false

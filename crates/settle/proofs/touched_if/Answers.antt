@@ -24,23 +24,23 @@ rule_counts-requires c =
     (w.outline.rules.count, omega (arith, c.requires.1, w.accepted.head.few_rules))
 
 pub returns-then-not-rule_counts : goal.returns-then-not-rule_counts
-returns-then-not-rule_counts c = untouched (λ m h k. clash k (sym c.before.rule_counts.ensures ∙ not-true c.if-not-rule_counts.true-raw))
+returns-then-not-rule_counts c = untouched (λ m h k. clash k (sym c.rule_counts.ensures ∙ not-true c.if-not-rule_counts.true-raw))
 
 pub rule_place-rule-requires : goal.rule_place-rule-requires
-rule_place-rule-requires c = let s = c.before.before in (s.requires.0.on.accepted.head, s.requires.1)
+rule_place-rule-requires c = (c.requires.0.on.accepted.head, c.requires.1)
 
 pub is_non_overlap_of-requires : goal.is_non_overlap_of-requires
 is_non_overlap_of-requires c =
-    let w = c.before.before.before.requires.0.on in
+    let w = c.requires.0.on in
     (w.accepted, c.rule_place-rule.ensures.0, row-bit w.row)
 
 -- whether the rule binds row i
-binds : (c : After-is_non_overlap_of) → let a = c.before.before.before.before.args in
+binds : (c : After-is_non_overlap_of) → let a = c.args in
     c.is_non_overlap_of.result ≡ (is_non_overlap a.block.now a.r && names_row a.block.now a.r a.i.number)
 binds c =
-    let a = c.before.before.before.before.args in
+    let a = c.args in
     c.is_non_overlap_of.ensures
-    ∙ ap (λ (r : ℕ). is_non_overlap a.block.now r && names_row a.block.now r a.i.number) c.before.rule_place-rule.ensures.1
+    ∙ ap (λ (r : ℕ). is_non_overlap a.block.now r && names_row a.block.now r a.i.number) c.rule_place-rule.ensures.1
 
 pub returns-then-not-is_non_overlap_of : goal.returns-then-not-is_non_overlap_of
 returns-then-not-is_non_overlap_of c =
@@ -49,14 +49,11 @@ returns-then-not-is_non_overlap_of c =
 
 pub touched_by-requires : goal.touched_by-requires
 touched_by-requires c =
-    let d = c.before.before.before in
-    (d.before.before.before.requires.0, d.rule_place-rule.ensures.0)
+    (c.requires.0, c.rule_place-rule.ensures.0)
 
 pub returns : goal.returns
 returns c =
-    let b = c.before in
-    let d = b.before.before.before.before in
-    let a = d.before.before.before.args in
+    let a = c.args in
     touched-so
-    (subst (λ (r : ℕ). Touched a.n a.due.now (Spared a.block.now a.table.now a.i.number r) b.touched_by.new.table.1.1.0)
-    d.rule_place-rule.ensures.1 b.touched_by.ensures) (λ m h spared k. spared)
+    (subst (λ (r : ℕ). Touched a.n a.due.now (Spared a.block.now a.table.now a.i.number r) c.touched_by.new.table.1.1.0)
+    c.rule_place-rule.ensures.1 c.touched_by.ensures) (λ m h spared k. spared)

@@ -8,13 +8,10 @@ use Rattle.splits.proofs.copy_upto.Goals as goal
 
 pub keep_upto-requires : goal.keep_upto-requires
 keep_upto-requires c =
-    let p = c.before.before in
-    let s = p.before.before in
-    subst (λ (t : List ℤ). OnNumber s.args.block.now t s.args.s.row s.args.s.column) (sym p.copy.ensures) s.requires.0
+    subst (λ (t : List ℤ). OnNumber c.args.block.now t c.args.s.row c.args.s.column) (sym c.copy.ensures) c.requires.0
 
 pub returns : goal.returns
 returns c =
-    let p = c.before.before.before.before in
-    let a = p.before.before.args in
-    c.before.keep_upto.ensures
-    ∙ ap (λ (t : List ℤ). upto_value a.block.now t a.s.row a.s.column a.s.at) p.copy.ensures
+    let a = c.args in
+    c.keep_upto.ensures
+    ∙ ap (λ (t : List ℤ). upto_value a.block.now t a.s.row a.s.column a.s.at) c.copy.ensures

@@ -24,7 +24,7 @@ Start = lts.Start tie.the-claims reads.Pre reads.Post
 -- both words lie in the table
 module _ (c : goal.After-lesser-high) where
   abbrev s : Start
-  s = c.before.before.before.before.before.before
+  s = c.before.before.before.before
 
   ends : s.args.i.at + 3 + 2 * s.args.d ≤ length s.args.table.now
   ends = let l = s.requires.1 in omega (arith, row_ends s.requires.0)
@@ -57,12 +57,11 @@ pub returns : goal.returns
 returns c =
     let x = s c in
     let a = x.args in
-    let l = c.before.before.before in
-    let lo : to_z w64 (of_z w64 l.larger-low.result) ≡ max_z (low a.block.now a.table.now a.i.number a.d) a.from =
-    read_back l.larger-low.ensures l.larger-low.type_inv
-    ∙ ap₂ max_z (read_back l.before.low_of.ensures l.before.low_of.type_inv) (to_z-of_z x.ranges.from) in
+    let lo : to_z w64 (of_z w64 c.larger-low.result) ≡ max_z (low a.block.now a.table.now a.i.number a.d) a.from =
+    read_back c.larger-low.ensures c.larger-low.type_inv
+    ∙ ap₂ max_z (read_back c.low_of.ensures c.low_of.type_inv) (to_z-of_z x.ranges.from) in
     let hi : to_z w64 (of_z w64 c.lesser-high.result) ≡ min_z (high a.block.now a.table.now a.i.number a.d) a.to =
     read_back c.lesser-high.ensures c.lesser-high.type_inv
-    ∙ ap₂ min_z (read_back c.before.high_of.ensures c.before.high_of.type_inv) (to_z-of_z x.ranges.to) in
+    ∙ ap₂ min_z (read_back c.high_of.ensures c.high_of.type_inv) (to_z-of_z x.ranges.to) in
     ap₂ (λ (y z : ℤ). set (set a.table.now (a.i.at + 1 + 2 * a.d) y) (a.i.at + 2 + 2 * a.d) z) lo hi
     ∙ set-range x.requires.0 x.requires.1 a.from a.to

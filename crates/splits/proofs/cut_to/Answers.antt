@@ -29,15 +29,11 @@ module _ (s : Start) where
 
 pub returns-then-column-eq0 : goal.returns-then-column-eq0
 returns-then-column-eq0 c =
-    let d = c.before in
-    let r = d.before.before.before in
-    let s = r.before.before in
-    d.cut_shapes.ensures ∙ asked s _ 0 r.row_place-i.ensures.1 (sym d.before.before.if-column-eq0.true)
+    let s = c.before.before.before.before.before in
+    c.cut_shapes.ensures ∙ asked s _ 0 c.row_place-i.ensures.1 (sym c.if-column-eq0.true)
 
 pub returns-else-column-eq0 : goal.returns-else-column-eq0
 returns-else-column-eq0 c =
-    let d = c.before in
-    let r = d.before.before.before in
-    let s = r.before.before in
-    let q : suc (s.args.column - 1) ≡ s.args.column = omega (arith, d.before.before.if-column-eq0.false) in
-    d.cut_range.ensures ∙ asked s _ (suc (s.args.column - 1)) r.row_place-i.ensures.1 q
+    let s = c.before.before.before.before.before in
+    let q : suc (s.args.column - 1) ≡ s.args.column = omega (arith, c.if-column-eq0.false) in
+    c.cut_range.ensures ∙ asked s _ (suc (s.args.column - 1)) c.row_place-i.ensures.1 q

@@ -18,11 +18,11 @@ module _ (c : goal.After-gap) where
   abbrev gap : ℕ
   gap = c.gap.result
 
-  is-gap : c.before.args.low +ℤ pos gap ≡ c.before.args.high
-  is-gap = rw (to_z-of_z c.before.ranges.low, to_z-of_z c.before.ranges.high) at c.gap.ensures.0
+  is-gap : c.args.low +ℤ pos gap ≡ c.args.high
+  is-gap = rw (to_z-of_z c.ranges.low, to_z-of_z c.ranges.high) at c.gap.ensures.0
 
   some : 1 ≤ gap
-  some = omega (ints, is-gap, sum c.before.args.low (pos gap))
+  some = omega (ints, is-gap, sum c.args.low (pos gap))
 
   half : Held 2000000 ((gap - 1) / 2) (pos ((gap - 1) / 2))
   half =
@@ -33,14 +33,14 @@ pub overflow_sub-result : goal.overflow_sub-result
 overflow_sub-result c = some c
 
 pub overflow_add-result : goal.overflow_add-result
-overflow_add-result c = add-fits (val c.before.requires.1 tt) (half c) tt
+overflow_add-result c = add-fits (val c.requires.1 tt) (half c) tt
 
 pub returns : goal.returns
 returns c =
-    let a = c.before.args in
+    let a = c.args in
     let h = (gap c - 1) / 2 in
     let l : h ≤ gap c - 1 = omega arith in
-    rw (held-sum (val c.before.requires.1 tt) (half c) tt).value (
+    rw (held-sum (val c.requires.1 tt) (half c) tt).value (
       omega (ints, sum a.low (pos h)),
       omega (ints, some c, l, is-gap c, sum a.low (pos h), sum a.low (pos (gap c))),
     )

@@ -8,11 +8,10 @@ use Rattle.splits.specs.Splits.{far}
 use Rattle.splits.proofs.keep_past.Goals as goal
 
 pub overflow_add-s : goal.overflow_add-s
-overflow_add-s c = sum_fits (bnd c.before.before.before.requires.1) (num 1) tt
+overflow_add-s c = sum_fits (bnd c.requires.1) (num 1) tt
 
 pub returns : goal.returns
 returns c =
-    let s = c.before.before.before.before.before in
-    let a = s.args in
-    c.before.cut_to.ensures
-    ∙ ap (λ (z : ℤ). cut_to a.block.now a.table.now a.s.row a.s.column z (pos far)) (exact (bnd s.requires.1 +ʷ num 1) tt)
+    let a = c.args in
+    c.cut_to.ensures
+    ∙ ap (λ (z : ℤ). cut_to a.block.now a.table.now a.s.row a.s.column z (pos far)) (exact (bnd c.requires.1 +ʷ num 1) tt)

@@ -8,7 +8,6 @@ use Rattle.splits.proofs.keep_upto.Goals as goal
 
 pub returns : goal.returns
 returns c =
-    let x = c.before.before in
-    let a = x.before.before.args in
-    c.before.cut_to.ensures
-    ∙ ap (upto_value a.block.now a.table.now a.s.row a.s.column) (bits_back {z = a.s.at} x.struct_told-1.given.1.1.0.1)
+    let a = c.args in
+    c.cut_to.ensures
+    ∙ ap (upto_value a.block.now a.table.now a.s.row a.s.column) (bits_back {z = a.s.at} c.struct_told-1.given.1.1.0.1)

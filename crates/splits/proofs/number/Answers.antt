@@ -34,9 +34,9 @@ pub returns-then-column-eq0 : goal.returns-then-column-eq0
 returns-then-column-eq0 c =
     let s = c.before.before.before in
     let a = s.args in
-    let e : a.column ≡ 0 = c.before.if-column-eq0.true in
+    let e : a.column ≡ 0 = c.if-column-eq0.true in
     let l : LowestShape a.block.now a.table.now a.row c.lowest_shape.result =
-    rw c.before.before.row_place-i.ensures.1 at c.lowest_shape.ensures in
+    rw c.row_place-i.ensures.1 at c.lowest_shape.ensures in
     let n : HasNumber a.block.now a.table.now a.row 0 = rw e at s.requires.has in
     near s
     (to_z_pos w64 (omega (arith, l.upto)) ∙ sym (lowest-number a.block.now a.table.now s.requires.table a.row _ n l)
@@ -46,7 +46,7 @@ pub returns : goal.returns
 returns c =
     let s = c.before.before.before in
     let a = s.args in
-    let same_row = ap (λ (i : ℕ). low a.block.now a.table.now i (a.column - 1)) c.before.before.row_place-i.ensures.1 in
+    let same_row = ap (λ (i : ℕ). low a.block.now a.table.now i (a.column - 1)) c.row_place-i.ensures.1 in
     near s
     (read_back (c.low_of.ensures ∙ same_row) c.low_of.type_inv
-    ∙ sym (coordinate a.block.now a.table.now a.row a.column c.before.if-column-eq0.false))
+    ∙ sym (coordinate a.block.now a.table.now a.row a.column c.if-column-eq0.false))

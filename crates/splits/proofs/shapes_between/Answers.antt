@@ -16,22 +16,20 @@ pub loop-s-init : goal.loop-s-init
 loop-s-init c = (omega arith, sym (set_of-zero _))
 
 pub with_shape-shapes-requires : goal.with_shape-shapes-requires
-with_shape-shapes-requires c = (c.loop-s-test.true, c.before.loop-s.invariant.1)
+with_shape-shapes-requires c = (c.loop-s-test.true, c.loop-s.invariant.1)
 
 pub overflow_add-s : goal.overflow_add-s
-overflow_add-s c = omega (arith, c.before.loop-s-test.true)
+overflow_add-s c = omega (arith, c.loop-s-test.true)
 
 pub loop-s-smaller : goal.loop-s-smaller
-loop-s-smaller c = omega (arith, c.before.loop-s-test.true)
+loop-s-smaller c = omega (arith, c.loop-s-test.true)
 
 pub loop-s-preserved : goal.loop-s-preserved
-loop-s-preserved c = (omega (arith, c.before.loop-s-test.true), rw (add-one c.before.before.loop-s.s) c.with_shape-shapes.ensures)
+loop-s-preserved c = (omega (arith, c.loop-s-test.true), rw (add-one c.loop-s.s) c.with_shape-shapes.ensures)
 
 pub returns : goal.returns
 returns c =
-    let l = c.before in
-    let s = l.before in
-    let e : l.loop-s.s ≡ 32 = omega (arith, l.loop-s.invariant.0, c.loop-s-test.false) in
+    let e : c.loop-s.s ≡ 32 = omega (arith, c.loop-s.invariant.0, c.loop-s-test.false) in
     rw (sym e)
-    (l.loop-s.invariant.1
-    ∙ ap₂ (λ (x y : ℤ). set_of l.loop-s.s (is_between s.args.set x y)) (to_z-of_z s.ranges.from) (to_z-of_z s.ranges.to))
+    (c.loop-s.invariant.1
+    ∙ ap₂ (λ (x y : ℤ). set_of c.loop-s.s (is_between c.args.set x y)) (to_z-of_z c.ranges.from) (to_z-of_z c.ranges.to))

@@ -30,10 +30,9 @@ After-is_within = lts.After-is_within tie.the-claims reads.Pre reads.Post
 pub returns-then-not-has_member : goal.returns-then-not-has_member
 unfolding is_between holds
 returns-then-not-has_member c =
-    let s = c.before.before in
-    let a = s.args in
-    let e = sym c.before.has_member.ensures ∙ not-true c.if-not-has_member.true-raw in
-    s.requires.1 ∙ sym (step-out (is_between a.set a.from a.to) (rw e))
+    let a = c.args in
+    let e = sym c.has_member.ensures ∙ not-true c.if-not-has_member.true-raw in
+    c.requires.1 ∙ sym (step-out (is_between a.set a.from a.to) (rw e))
 
 -- its number, s + 1
 module _ (s : Start) where
@@ -54,25 +53,21 @@ tested c = let s = c.before.before.before in rw (to_z-of_z s.ranges.from, to_z-o
 pub returns-then-not-is_within : goal.returns-then-not-is_within
 unfolding is_between holds
 returns-then-not-is_within c =
-    let s = c.before.before.before.before in
-    let a = s.args in
+    let a = c.args in
     let e : is_between a.set a.from a.to (suc a.s) ≡ false =
     ap (λ (b : Bool). holds (pos a.set) (suc a.s) && b) (sym (tested c.before) ∙ not-true c.if-not-is_within.true-raw)
     ∙ and-false (holds (pos a.set) (suc a.s)) in
-    s.requires.1 ∙ sym (step-out (is_between a.set a.from a.to) e)
+    c.requires.1 ∙ sym (step-out (is_between a.set a.from a.to) e)
 
 pub with_member-requires : goal.with_member-requires
 with_member-requires c =
-    let s = c.before.before.before.before in
-    let a = s.args in
-    (s.requires.0, rw s.requires.1 (set_of-below a.s (is_between a.set a.from a.to)))
+    let a = c.args in
+    (c.requires.0, rw c.requires.1 (set_of-below a.s (is_between a.set a.from a.to)))
 
 pub returns : goal.returns
 unfolding is_between holds
 returns c =
-    let d = c.before in
-    let s = d.before.before.before.before in
-    let a = s.args in
-    let held = sym d.before.before.before.has_member.ensures ∙ not-false d.before.before.if-not-has_member.false-raw in
-    let e = true-and held (sym (tested d.before) ∙ not-false d.if-not-is_within.false-raw) in
-    c.with_member.ensures ∙ ap (λ (n : ℕ). n + 2 ^ a.s) s.requires.1 ∙ sym (step_in (is_between a.set a.from a.to) e)
+    let a = c.args in
+    let held = sym c.has_member.ensures ∙ not-false c.if-not-has_member.false-raw in
+    let e = true-and held (sym (tested c.before.before) ∙ not-false c.if-not-is_within.false-raw) in
+    c.with_member.ensures ∙ ap (λ (n : ℕ). n + 2 ^ a.s) c.requires.1 ∙ sym (step_in (is_between a.set a.from a.to) e)

@@ -23,7 +23,7 @@ pub bounds-p-e : goal.bounds-p-e
 bounds-p-e c = omega arith
 
 pub overflow_sub-q : goal.overflow_sub-q
-overflow_sub-q c = let b = c.before.before in diff-fits (num 0) (bnd (b.before.requires.near b.loop-e.e)) tt
+overflow_sub-q c = diff-fits (num 0) (bnd (c.requires.near c.loop-e.e)) tt
 
 pub offset_bounds-q-e : goal.offset_bounds-q-e
 offset_bounds-q-e c = omega arith
@@ -39,12 +39,11 @@ loop-e-smaller c = omega arith
 
 pub loop-e-preserved : goal.loop-e-preserved
 loop-e-preserved c =
-    let b = c.before.before in
-    let p = b.before.args.p in
-    let h : b.loop-e.e < length p = search rules in
-    made_more b.loop-e.invariant h (exact (num 0 -ʷ bnd (b.before.requires.near b.loop-e.e)) tt ∙ +ℤ_idl _ ∙ sym (word-mirror p b.loop-e.e))
+    let p = c.args.p in
+    let h : c.loop-e.e < length p = search rules in
+    made_more c.loop-e.invariant h (exact (num 0 -ʷ bnd (c.requires.near c.loop-e.e)) tt ∙ +ℤ_idl _ ∙ sym (word-mirror p c.loop-e.e))
 
 pub returns : goal.returns
 returns c =
-    let h : length c.before.before.args.p ≤ c.before.loop-e.e = search rules in
-    made_all c.before.loop-e.invariant h
+    let h : length c.args.p ≤ c.loop-e.e = search rules in
+    made_all c.loop-e.invariant h

@@ -21,7 +21,7 @@ pub bounds-p-e : goal.bounds-p-e
 bounds-p-e c = omega arith
 
 pub overflow_add-q : goal.overflow_add-q
-overflow_add-q c = let b = c.before.before in near_fits (b.before.requires.near b.loop-e.e) _ tt
+overflow_add-q c = near_fits (c.requires.near c.loop-e.e) _ tt
 
 pub offset_bounds-q-e : goal.offset_bounds-q-e
 offset_bounds-q-e c = omega arith
@@ -37,12 +37,11 @@ loop-e-smaller c = omega arith
 
 pub loop-e-preserved : goal.loop-e-preserved
 loop-e-preserved c =
-    let b = c.before.before in
-    let p = b.before.args.p in
-    let h : b.loop-e.e < length p = search rules in
-    made_more b.loop-e.invariant h (exact (bnd (b.before.requires.near b.loop-e.e) +ʷ num 1) tt ∙ sym (word-nexts p b.loop-e.e h))
+    let p = c.args.p in
+    let h : c.loop-e.e < length p = search rules in
+    made_more c.loop-e.invariant h (exact (bnd (c.requires.near c.loop-e.e) +ʷ num 1) tt ∙ sym (word-nexts p c.loop-e.e h))
 
 pub returns : goal.returns
 returns c =
-    let h : length c.before.before.args.p ≤ c.before.loop-e.e = search rules in
-    made_all c.before.loop-e.invariant h
+    let h : length c.args.p ≤ c.loop-e.e = search rules in
+    made_all c.loop-e.invariant h

@@ -15,7 +15,7 @@ use Rattle.sweep.proofs.rotated.Goals as goal
 pub returns-then-j-k : goal.returns-then-j-k
 unfolding list_below
 returns-then-j-k c =
-    let a = c.before.before.before.before.args in
+    let a = c.args in
     let e : suc (a.k - 1) ≡ a.k = omega (arith, ltb-true) in
     table-rule (a.k - 1) a.d a.j (omega (arith, ltb-true)) (omega (arith, ltb-true)) (omega (arith, ltb-true))
     ∙ ap (λ (m : ℕ). reduced m (a.j + a.d)) e
@@ -34,7 +34,7 @@ pub bounds-table-j : goal.bounds-table-j
 bounds-table-j c = omega (arith, ltb-true)
 
 pub overflow_cast-result : goal.overflow_cast-result
-overflow_cast-result c = let a = c.before.before.before.before.args in omega (arith, returns-then-j-k c, rotation-below a.k a.d a.j)
+overflow_cast-result c = let a = c.args in omega (arith, returns-then-j-k c, rotation-below a.k a.d a.j)
 
 pub returns-else-k-le-COORDINATES : goal.returns-else-k-le-COORDINATES
 returns-else-k-le-COORDINATES c =

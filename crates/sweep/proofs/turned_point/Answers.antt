@@ -4,11 +4,11 @@ use Rattle.sweep.specs.Point.{turned}
 use Rattle.sweep.proofs.turned_point.Goals as goal
 
 pub mirrored-requires : goal.mirrored-requires
-mirrored-requires c = c.before.requires
+mirrored-requires c = c.requires
 
 pub returns-then-flip : goal.returns-then-flip
 unfolding turned
-returns-then-flip c = rw c.before.if-flip.true c.mirrored.ensures
+returns-then-flip c = rw c.if-flip.true c.mirrored.ensures
 
 pub returns-else-flip : goal.returns-else-flip
 unfolding turned

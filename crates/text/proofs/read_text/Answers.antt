@@ -22,32 +22,25 @@ Else-n-gt-BLOCK_WORDS = lts.Else2 tie.the-claims reads.Pre reads.Post
 
 pub returns-then-not-p : goal.returns-then-not-p
 returns-then-not-p c =
-    let parse-text = c.before.before.before in
-    c.refused.ensures ∙ read_none _ _ parse-text.parse_text-p.ensures (not-true c.before.if-not-p.true)
+    c.refused.ensures ∙ read_none _ _ c.parse_text-p.ensures (not-true c.if-not-p.true)
 
 pub returns-then-n-gt-BLOCK_WORDS : goal.returns-then-n-gt-BLOCK_WORDS
 returns-then-n-gt-BLOCK_WORDS c =
-    let if1 = c.before.before.before.before in
-    let parse-text = if1.before.before in
-    c.refused-then-n-gt-BLOCK_WORDS.ensures ∙ read-long _ _ parse-text.parse_text-p.ensures (not-false if1.if-not-p.false) c.before.if-n-gt-BLOCK_WORDS.true
+    c.refused-then-n-gt-BLOCK_WORDS.ensures ∙ read-long _ _ c.parse_text-p.ensures (not-false c.if-not-p.false) c.if-n-gt-BLOCK_WORDS.true
 
 block_in : (c : Else-n-gt-BLOCK_WORDS)
-    → let parsed = c.before.before.before.before.before.parse_text-p.result in
+    → let parsed = c.parse_text-p.result in
     parsed.block_len ≤ length parsed.block
 block_in c =
-    let parse-text = c.before.before.before.before.before in
-    let start = parse-text.before.before in
-    let p = parse-text.parse_text-p in
-    omega (arith, (parsed-long (read_text start.args.text.now) p.result p.ensures).0, c.if-n-gt-BLOCK_WORDS.false)
+    let p = c.parse-text in
+    omega (arith, (parsed-long (read_text c.args.text.now) p.result p.ensures).0, c.if-n-gt-BLOCK_WORDS.false)
 
 table-in : (c : goal.Else-m-gt-TABLE_WORDS)
-    → let parsed = c.before.before.before.before.before.before.parse_text-p.result in
+    → let parsed = c.parse_text-p.result in
     parsed.table_len ≤ length parsed.table
 table-in c =
-    let parse-text = c.before.before.before.before.before.before in
-    let start = parse-text.before.before in
-    let p = parse-text.parse_text-p in
-    omega (arith, (parsed-long (read_text start.args.text.now) p.result p.ensures).1, c.if-m-gt-TABLE_WORDS.false)
+    let p = c.parse-text in
+    omega (arith, (parsed-long (read_text c.args.text.now) p.result p.ensures).1, c.if-m-gt-TABLE_WORDS.false)
 
 pub slice_bounds-b-end : goal.slice_bounds-b-end
 slice_bounds-b-end c = block_in c.before
@@ -55,19 +48,14 @@ slice_bounds-b-end c = block_in c.before
 pub slice_bounds-refusal-end : goal.slice_bounds-refusal-end
 slice_bounds-refusal-end c =
     let if2 = c.before.before in
-    let parse-text = if2.before.before.before.before.before in
-    sym (length-take-le _ parse-text.parse_text-p.result.block (block_in if2))
+    sym (length-take-le _ if2.parse_text-p.result.block (block_in if2))
 
 pub returns-then-m-gt-TABLE_WORDS : goal.returns-then-m-gt-TABLE_WORDS
 returns-then-m-gt-TABLE_WORDS c =
-    let if3 = c.before.before.before.before in
-    let if2 = if3.before in
-    let if1 = if2.before.before.before in
-    let parse-text = if1.before.before in
-    let p = parse-text.parse_text-p in
-    let g = c.before.refusal in
+    let p = c.parse-text in
+    let g = c.refusal in
     let found = to_z-of_z (fits_word _ g.type_inv) ∙ g.ensures in
-    c.refused-then-m-gt-TABLE_WORDS.ensures ∙ read-rows _ p.result p.ensures (not-false if1.if-not-p.false) if2.if-n-gt-BLOCK_WORDS.false if3.if-m-gt-TABLE_WORDS.true found
+    c.refused-then-m-gt-TABLE_WORDS.ensures ∙ read-rows _ p.result p.ensures (not-false c.if-not-p.false) c.if-n-gt-BLOCK_WORDS.false c.if-m-gt-TABLE_WORDS.true found
 
 pub slice_bounds-b-end-2 : goal.slice_bounds-b-end-2
 slice_bounds-b-end-2 c = block_in c.before
@@ -75,8 +63,7 @@ slice_bounds-b-end-2 c = block_in c.before
 pub slice_bounds-refusal-end-2 : goal.slice_bounds-refusal-end-2
 slice_bounds-refusal-end-2 c =
     let if2 = c.before.before in
-    let parse-text = if2.before.before.before.before.before in
-    sym (length-take-le _ parse-text.parse_text-p.result.block (block_in if2))
+    sym (length-take-le _ if2.parse_text-p.result.block (block_in if2))
 
 pub slice_bounds-t-end-2 : goal.slice_bounds-t-end-2
 slice_bounds-t-end-2 c = table-in c.before
@@ -84,30 +71,20 @@ slice_bounds-t-end-2 c = table-in c.before
 pub slice_bounds-refusal-end-3 : goal.slice_bounds-refusal-end-3
 slice_bounds-refusal-end-3 c =
     let if3 = c.before.before in
-    let parse-text = if3.before.before.before.before.before.before in
-    sym (length-take-le _ parse-text.parse_text-p.result.table (table-in if3))
+    sym (length-take-le _ if3.parse_text-p.result.table (table-in if3))
 
 pub returns-then-g-gt0 : goal.returns-then-g-gt0
 returns-then-g-gt0 c =
-    let refusal2 = c.before.before in
-    let if3 = refusal2.before.before.before in
-    let if2 = if3.before in
-    let if1 = if2.before.before.before in
-    let parse-text = if1.before.before in
-    let p = parse-text.parse_text-p in
-    let g = refusal2.refusal-g in
+    let p = c.parse-text in
+    let g = c.refusal2 in
     let found = to_z-of_z (fits_word _ g.type_inv) ∙ g.ensures in
     c.refused-then-g-gt0.ensures
-    ∙ read-refused _ p.result p.ensures (not-false if1.if-not-p.false) if2.if-n-gt-BLOCK_WORDS.false if3.if-m-gt-TABLE_WORDS.false found
-    (refused g.ensures g.type_inv c.before.if-g-gt0.true)
+    ∙ read-refused _ p.result p.ensures (not-false c.if-not-p.false) c.if-n-gt-BLOCK_WORDS.false c.if-m-gt-TABLE_WORDS.false found
+    (refused g.ensures g.type_inv c.if-g-gt0.true)
 
 pub returns : goal.returns
 returns c =
-    let if3 = c.before.before.before.before in
-    let if2 = if3.before in
-    let if1 = if2.before.before.before in
-    let parse-text = if1.before.before in
-    let p = parse-text.parse_text-p in
-    let g = c.before.refusal-g in
-    read-accepted _ p.result p.ensures (not-false if1.if-not-p.false) if2.if-n-gt-BLOCK_WORDS.false if3.if-m-gt-TABLE_WORDS.false
+    let p = c.parse-text in
+    let g = c.refusal-g in
+    read-accepted _ p.result p.ensures (not-false c.if-not-p.false) c.if-n-gt-BLOCK_WORDS.false c.if-m-gt-TABLE_WORDS.false
     (accepted g.ensures g.type_inv c.if-g-gt0.false)

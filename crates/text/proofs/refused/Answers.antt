@@ -6,4 +6,4 @@ use Rattle.text.proofs.refused.Goals as goal
 
 pub returns : goal.returns
 unfolding refused_by
-returns c = rw (to_z-of_z c.before.before.ranges.refusal, c.before.block_zeros-b.ensures, c.table_zeros-t.ensures)
+returns c = rw (to_z-of_z c.ranges.refusal, c.block_zeros-b.ensures, c.table_zeros-t.ensures)

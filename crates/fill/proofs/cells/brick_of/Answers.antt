@@ -17,19 +17,18 @@ use Rattle.fill.proofs.Bricks.{size-near, size-from}
 use Rattle.fill.proofs.cells.brick_of.Goals as goal
 
 few : (c : goal.After-dims_of-k) → c.dims_of-k.result ≤ 4
-few c = let k = c.before.requires.of.counting.room.accepted.head.few_dims in omega (arith, c.dims_of-k.ensures)
+few c = let k = c.requires.of.counting.room.accepted.head.few_dims in omega (arith, c.dims_of-k.ensures)
 
 -- the dimension at hand is one of the sheet's
-is-dim : (c : goal.In-loop-d) → c.before.loop-d.d < dims c.before.before.before.args.block.now
-is-dim c = omega (arith, c.before.before.dims_of-k.ensures)
+is-dim : (c : goal.In-loop-d) → c.loop-d.d < dims c.args.block.now
+is-dim c = omega (arith, c.dims_of-k.ensures)
 
 size-count : (c : goal.After-size_of) → Count c.size_of.result
 size-count c =
-    let s = c.before.before.before.before.before in
     let l = is-dim c.before.before in
     let e = c.size_of.ensures in
-    let a = size-from s.requires l in
-    let b = size-near s.requires l in
+    let a = size-from c.requires l in
+    let b = size-near c.requires l in
     record { from = omega ints; upto = omega ints }
 
 pub dims_of-k-requires : goal.dims_of-k-requires
@@ -39,7 +38,7 @@ pub loop-d-init : goal.loop-d-init
 loop-d-init c = (omega arith, search rules, search rules, λ e h. absurd (omega arith), λ e h. absurd (omega arith))
 
 pub place_of-requires : goal.place_of-requires
-place_of-requires c = (c.before.before.before.requires, is-dim c)
+place_of-requires c = (c.requires, is-dim c)
 
 pub offset_bounds-from-d : goal.offset_bounds-from-d
 offset_bounds-from-d c = omega (arith, few c.before.before.before, is-dim c.before)
@@ -48,7 +47,7 @@ pub bounds-from-d : goal.bounds-from-d
 bounds-from-d c = omega (arith, few c.before.before.before, is-dim c.before)
 
 pub size_of-requires : goal.size_of-requires
-size_of-requires c = (c.before.before.before.before.requires.box, is-dim c.before)
+size_of-requires c = (c.requires.box, is-dim c.before)
 
 pub overflow_cast-size : goal.overflow_cast-size
 overflow_cast-size c = cast_ok (size-count c).from (size-count c).upto tt tt
@@ -64,23 +63,20 @@ loop-d-smaller c = omega (arith, is-dim c.before.before)
 
 pub loop-d-preserved : goal.loop-d-preserved
 loop-d-preserved c =
-    let p = c.before in
-    let l = p.before.before in
-    let a = l.before.before.args in
-    let inv = l.loop-d.invariant in
-    let below : l.loop-d.d < 4 = omega (arith, few l.before) in
+    let a = c.args in
+    let inv = c.loop-d.invariant in
+    let below : c.loop-d.d < 4 = omega (arith, few c.before.before.before.before) in
     let read = c.size_of in (
       omega arith,
       simp length-set inv.1,
       simp length-set inv.2,
-      one_more (IsPlace a.block.now a.table.now a.r.number a.i.number a.b.number) l.loop-d.from (omega (arith, inv.1))
-          inv.3 p.place_of.ensures,
-      one_more (IsSize a.block.now a.b.number) l.loop-d.size (omega (arith, inv.2))
+      one_more (IsPlace a.block.now a.table.now a.r.number a.i.number a.b.number) c.loop-d.from (omega (arith, inv.1))
+          inv.3 c.place_of.ensures,
+      one_more (IsSize a.block.now a.b.number) c.loop-d.size (omega (arith, inv.2))
           inv.4 (ap pos (cast-nat _ read.type_inv (size-count c)) ∙ pos-nat (size-count c).from ∙ read.ensures),
     )
 
 pub returns : goal.returns
 returns c =
-    let l = c.before in
-    let all : (d : ℕ) → d < dims l.before.before.args.block.now → d < l.loop-d.d = λ d h. omega (arith, l.before.dims_of-k.ensures) in
-    record { from = λ d h. l.loop-d.invariant.3 d (all d h); size = λ d h. l.loop-d.invariant.4 d (all d h) }
+    let all : (d : ℕ) → d < dims c.args.block.now → d < c.loop-d.d = λ d h. omega (arith, c.dims_of-k.ensures) in
+    record { from = λ d h. c.loop-d.invariant.3 d (all d h); size = λ d h. c.loop-d.invariant.4 d (all d h) }

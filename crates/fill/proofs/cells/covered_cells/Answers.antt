@@ -6,14 +6,13 @@ use Rattle.fill.proofs.Covers.{marks-counted}
 use Rattle.fill.proofs.cells.covered_cells.Goals as goal
 
 pub mark_rows-requires : goal.mark_rows-requires
-mark_rows-requires c = let p = c.before.requires in (p.0, p.1)
+mark_rows-requires c = let p = c.requires in (p.0, p.1)
 
 pub count-requires : goal.count-requires
-count-requires c = let s = c.before.before.before in omega (arith, s.requires.2, s.requires.0.few_cells)
+count-requires c = omega (arith, c.requires.2, c.requires.0.few_cells)
 
 pub returns : goal.returns
 returns c =
-    let s = c.before.before.before.before in
-    let w = s.requires.0 in
-    marks-counted _ _ _ w.some_cells s.requires.2 (λ m l. get_or-replicate 4096 m false false (omega (arith, w.few_cells, l)))
-    c.before.before.mark_rows.ensures c.count.ensures
+    let w = c.requires.0 in
+    marks-counted _ _ _ w.some_cells c.requires.2 (λ m l. get_or-replicate 4096 m false false (omega (arith, w.few_cells, l)))
+    c.mark_rows.ensures c.count.ensures

@@ -11,28 +11,27 @@ use Rattle.fill.proofs.Covers.{own-box, boxes_to, boxes-first, boxes-next, boxes
 use Rattle.fill.proofs.cells.mark_row.Goals as goal
 
 -- the boxes of the shape are the row's
-own : (c : goal.After-lowest_shape-s) {b : ℕ} → let s = c.before.before.before in
-    b < boxes s.args.block.now
-    → is_of s.args.block.now b c.lowest_shape-s.result
-    ≡ of_row s.args.block.now s.args.table.now s.args.i.number b
-own c = own-box c.before.before.before.requires.0 c.lowest_shape-s.ensures
+own : (c : goal.After-lowest_shape-s) {b : ℕ} → b < boxes c.args.block.now
+    → is_of c.args.block.now b c.lowest_shape-s.result
+    ≡ of_row c.args.block.now c.args.table.now c.args.i.number b
+own c = own-box c.requires.0 c.lowest_shape-s.ensures
 
 pub dims_of-k-requires : goal.dims_of-k-requires
 dims_of-k-requires c = c.requires.0.counting.room.accepted.head
 
 pub boxes_of-n-requires : goal.boxes_of-n-requires
-boxes_of-n-requires c = c.before.requires.0.counting.room.accepted.head
+boxes_of-n-requires c = c.requires.0.counting.room.accepted.head
 
 pub lowest_shape-s-requires : goal.lowest_shape-s-requires
-lowest_shape-s-requires c = let w = c.before.before.requires.0 in (w.counting.table, w.row)
+lowest_shape-s-requires c = let w = c.requires.0 in (w.counting.table, w.row)
 
 pub first_of-b-requires : goal.first_of-b-requires
-first_of-b-requires c = (c.before.before.before.requires.1.chained, omega (arith, c.lowest_shape-s.ensures.upto))
+first_of-b-requires c = (c.requires.1.chained, omega (arith, c.lowest_shape-s.ensures.upto))
 
 pub loop-b-init : goal.loop-b-init
 loop-b-init c =
     let f = c.first_of-b.ensures in
-    let n = c.before.before.boxes_of-n.ensures in
+    let n = c.boxes_of-n.ensures in
     let few : c.first_of-b.result ≤ boxes _ = f.0 in (
       omega (arith, n),
       λ h. sym (own c.before (rw (← n) h)) ∙ f.1 (rw (← n) h),
@@ -44,11 +43,11 @@ module _ (c : goal.In-loop-b) where
   abbrev top : goal.Start
   top = c.before.before.before.before.before.before
 
-  below : c.before.loop-b.b < boxes top.args.block.now
-  below = omega (arith, c.before.before.before.before.boxes_of-n.ensures, c.loop-b-test.true)
+  below : c.loop-b.b < boxes top.args.block.now
+  below = omega (arith, c.boxes_of-n.ensures, c.loop-b-test.true)
 
-  is-own : of_row top.args.block.now top.args.table.now top.args.i.number c.before.loop-b.b ≡ true
-  is-own = c.before.loop-b.invariant.1 c.loop-b-test.true
+  is-own : of_row top.args.block.now top.args.table.now top.args.i.number c.loop-b.b ≡ true
+  is-own = c.loop-b.invariant.1 c.loop-b-test.true
 
 pub box_place-requires : goal.box_place-requires
 box_place-requires c = ((top c).requires.0.counting.room.accepted.head, below c)
@@ -64,9 +63,8 @@ brick_of-brick-requires c = named-box c
 
 pub mark_brick-requires : goal.mark_brick-requires
 mark_brick-requires c =
-    let x = c.before in
-    let l = x.before.before in
-    rw l.before.before.before.before.before.dims_of-k.ensures (brick-lies (named-box x.before) _ _ (top l).requires.2 x.brick_of-brick.ensures)
+    let l = c.before.before.before in
+    rw l.dims_of-k.ensures (brick-lies (named-box c.before.before) _ _ (top l).requires.2 c.brick_of-brick.ensures)
 
 pub after-b-requires : goal.after-b-requires
 after-b-requires c =
@@ -80,25 +78,22 @@ after-b-requires c =
     }
 
 pub loop-b-smaller : goal.loop-b-smaller
-loop-b-smaller c = omega (arith, c.after-b.ensures.0, c.before.before.before.before.before.loop-b-test.true)
+loop-b-smaller c = omega (arith, c.after-b.ensures.0, c.loop-b-test.true)
 
 pub loop-b-preserved : goal.loop-b-preserved
 loop-b-preserved c =
     let f = c.after-b.ensures in
-    let k = c.before in
-    let x = k.before.before in
-    let l = x.before.before in
-    let n = l.before.before.before.before.boxes_of-n.ensures in
+    let l = c.before.before.before.before.before in
+    let n = l.boxes_of-n.ensures in
     let s = l.before.before.before in
     let few : c.after-b.result ≤ boxes _ = f.1 in (
       omega (arith, n),
       λ h. sym (own s (rw (← n) h)) ∙ f.2 (rw (← n) h),
-      boxes-next _ _ _ _ (is-own l) f.0 (λ b p q. sym (own s (omega (arith, few, q))) ∙ f.3 b p q) l.before.loop-b.invariant.2
-          (brick-adds (named-box x.before) _ _ (top l).requires.2 x.brick_of-brick.ensures l.before.before.before.before.before.dims_of-k.ensures
-          x.before.box_place.ensures.1 k.mark_brick.ensures),
+      boxes-next _ _ _ _ (is-own l) f.0 (λ b p q. sym (own s (omega (arith, few, q))) ∙ f.3 b p q) l.loop-b.invariant.2
+          (brick-adds (named-box c.before.before.before.before) _ _ (top l).requires.2 c.brick_of-brick.ensures l.dims_of-k.ensures
+          c.box_place.ensures.1 c.mark_brick.ensures),
     )
 
 pub returns : goal.returns
 returns c =
-    let l = c.before in
-    boxes-all _ _ _ _ (omega (arith, c.loop-b-test.false, l.before.before.before.boxes_of-n.ensures)) l.loop-b.invariant.2
+    boxes-all _ _ _ _ (omega (arith, c.loop-b-test.false, c.boxes_of-n.ensures)) c.loop-b.invariant.2

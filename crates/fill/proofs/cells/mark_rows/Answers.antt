@@ -15,25 +15,24 @@ pub widths_of-widths-requires : goal.widths_of-widths-requires
 widths_of-widths-requires c = c.requires.0.room
 
 pub rows_of-n-requires : goal.rows_of-n-requires
-rows_of-n-requires c = c.before.requires.0.room.accepted.head
+rows_of-n-requires c = c.requires.0.room.accepted.head
 
 pub loop-m-init : goal.loop-m-init
 loop-m-init c = (omega arith, rows-first _ _ _)
 
 -- the row at hand is one of the table's
-row_in : (c : goal.In-loop-m) → let s = c.before.before.before.before in
-    UpTo (rows s.args.block.now s.args.table.now) (c.before.loop-m.m + 1)
-row_in c = up_next (omega (arith, c.before.before.rows_of-n.ensures, c.loop-m-test.true))
+row_in : (c : goal.In-loop-m) → UpTo (rows c.args.block.now c.args.table.now) (c.loop-m.m + 1)
+row_in c = up_next (omega (arith, c.rows_of-n.ensures, c.loop-m-test.true))
 
-few-rows : (c : goal.In-loop-m) → c.before.loop-m.m + 1 ≤ 32
-few-rows c = omega (arith, (row_in c).upto, c.before.before.before.before.requires.0.table.whole.few_rows)
+few-rows : (c : goal.In-loop-m) → c.loop-m.m + 1 ≤ 32
+few-rows c = omega (arith, (row_in c).upto, c.requires.0.table.whole.few_rows)
 
 pub overflow_add-m : goal.overflow_add-m
 overflow_add-m c = omega (arith, few-rows c)
 
 pub names_row-requires : goal.names_row-requires
 names_row-requires c =
-    let w = c.before.before.before.before.requires.0.room in
+    let w = c.requires.0.room in
     (w.rule, w.accepted.row_sets _ w.rule.below, record { from = (row_in c).from; upto = few-rows c })
 
 pub overflow_add-m-then-names_row : goal.overflow_add-m-then-names_row
@@ -42,44 +41,41 @@ overflow_add-m-then-names_row c = omega (arith, few-rows c.before.before)
 pub row_place-i-requires : goal.row_place-i-requires
 row_place-i-requires c =
     let l = c.before.before in
-    let w = l.before.before.before.before.requires.0 in
+    let w = l.requires.0 in
     (w.room.accepted.head, w.table.whole, row_in l)
 
 pub mark_row-requires : goal.mark_row-requires
 mark_row-requires c =
-    let p = c.before.row_place-i.ensures in
-    let t = c.before.before in
-    let v = t.before.before.before.before.before in (
-      record { counting = v.before.requires.0; row = p.0; named = rw p.1 (sym t.before.names_row.ensures ∙ t.if-names_row.true) },
-      v.before.requires.1,
-      v.widths_of-widths.ensures,
+    let p = c.row_place-i.ensures in
+    (
+      record { counting = c.requires.0; row = p.0; named = rw p.1 (sym c.names_row.ensures ∙ c.if-names_row.true) },
+      c.requires.1,
+      c.widths_of-widths.ensures,
     )
 
 pub overflow_add-m-in-loop-m : goal.overflow_add-m-in-loop-m
 overflow_add-m-in-loop-m c = omega (arith, few-rows c.before.before)
 
 pub loop-m-smaller : goal.loop-m-smaller
-loop-m-smaller c = omega (arith, c.before.before.loop-m-test.true)
+loop-m-smaller c = omega (arith, c.loop-m-test.true)
 
 pub loop-m-preserved : goal.loop-m-preserved
 loop-m-preserved c =
-    let q = c.before in
-    let l = q.before.before in
-    let a = l.before.before.before.args in
+    let a = c.args in
     let block = a.block.now in
     let t = a.table.now in
     let n = room_cells block a.r.number in
-    let m = l.loop-m.m in
+    let m = c.loop-m.m in
     let old = a.marks.now in
-    let named = sym q.names_row.ensures in (
-      omega (arith, q.before.loop-m-test.true),
+    let named = sym c.names_row.ensures in (
+      omega (arith, c.loop-m-test.true),
       ⊎_elim
           (λ x. subst (Adds n (rows_to block t a.r.number (m + 1)) old) (sym x.4)
-          (rows_named block t a.r.number m x.1.ensures.1 (named ∙ x.0.taken) l.loop-m.invariant.1 x.3.ensures))
+          (rows_named block t a.r.number m x.1.ensures.1 (named ∙ x.0.taken) c.loop-m.invariant.1 x.3.ensures))
           (λ x. subst (Adds n (rows_to block t a.r.number (m + 1)) old) (sym x.1)
-          (rows_other block t a.r.number m (named ∙ x.0.left) l.loop-m.invariant.1))
+          (rows_other block t a.r.number m (named ∙ x.0.left) c.loop-m.invariant.1))
           c.if-names_row.branch,
     )
 
 pub returns : goal.returns
-returns c = let l = c.before in rows_all _ _ _ (omega (arith, c.loop-m-test.false, l.before.rows_of-n.ensures)) l.loop-m.invariant.1
+returns c = rows_all _ _ _ (omega (arith, c.loop-m-test.false, c.rows_of-n.ensures)) c.loop-m.invariant.1

@@ -11,13 +11,12 @@ use Rattle.fill.proofs.Rooms.{width-upto, cells_to, too_many, cells-found}
 use Rattle.fill.proofs.room.cells_of.Goals as goal
 
 -- the dimension at hand is one of the sheet's
-is-dim : (c : goal.In-loop-d) → c.before.loop-d.d < dims c.before.before.before.args.block.now
-is-dim c = omega (arith, c.before.before.dims_of-k.ensures)
+is-dim : (c : goal.In-loop-d) → c.loop-d.d < dims c.args.block.now
+is-dim c = omega (arith, c.dims_of-k.ensures)
 
 -- with its width
-cells-next : (c : goal.After-width_of-n) → let l = c.before.before in let s = l.before.before in
-    l.loop-d.n * c.width_of_lem.result ≡ cells_to s.args.block.now s.args.r.number (l.loop-d.d + 1)
-cells-next c = ap₂ ◌*◌ c.before.before.loop-d.invariant.1 c.width_of_lem.ensures ∙ sym (product-more _ _)
+cells-next : (c : goal.After-width_of-n) → c.loop-d.n * c.width_of_lem.result ≡ cells_to c.args.block.now c.args.r.number (c.loop-d.d + 1)
+cells-next c = ap₂ ◌*◌ c.loop-d.invariant.1 c.width_of_lem.ensures ∙ sym (product-more _ _)
 
 pub dims_of-k-requires : goal.dims_of-k-requires
 dims_of-k-requires c = c.requires.accepted.head
@@ -26,18 +25,17 @@ pub loop-d-init : goal.loop-d-init
 loop-d-init c = (omega arith, sym (product-zero _), omega arith)
 
 pub width_of-n-requires : goal.width_of-n-requires
-width_of-n-requires c = (c.before.before.before.requires, is-dim c)
+width_of-n-requires c = (c.requires, is-dim c)
 
 pub overflow_mul-n : goal.overflow_mul-n
 overflow_mul-n c =
-    let l = c.before.before in
-    let w : c.width_of_lem.result ≤ 2000000 = rw c.width_of_lem.ensures (width-upto l.before.before.requires (is-dim c.before)) in
-    record { fits = omega (arith, mul-le-mul l.loop-d.invariant.2 w) }
+    let w : c.width_of_lem.result ≤ 2000000 = rw c.width_of_lem.ensures (width-upto c.requires (is-dim c.before)) in
+    record { fits = omega (arith, mul-le-mul c.loop-d.invariant.2 w) }
 
 pub returns-then-n-gt-CELLS : goal.returns-then-n-gt-CELLS
 returns-then-n-gt-CELLS c =
     let w = c.before in
-    too_many _ _ (w.before.before.loop-d.d + 1) (omega (arith, is-dim w.before)) (rw (← cells-next w) c.if-n-gt-CELLS.true)
+    too_many _ _ (w.loop-d.d + 1) (omega (arith, is-dim w.before)) (rw (← cells-next w) c.if-n-gt-CELLS.true)
 
 pub loop-d-preserved : goal.loop-d-preserved
 loop-d-preserved c = (omega arith, cells-next c.before, omega arith)
@@ -45,6 +43,5 @@ loop-d-preserved c = (omega arith, cells-next c.before, omega arith)
 pub returns : goal.returns
 unfolding room_cells
 returns c =
-    let l = c.before in
-    let all : l.loop-d.n ≡ room_cells _ _ = l.loop-d.invariant.1 ∙ ap (cells_to _ _) (omega (arith, l.before.dims_of-k.ensures)) in
-    all ∙ cells-found _ _ (rw (← all) l.loop-d.invariant.2)
+    let all : c.loop-d.n ≡ room_cells _ _ = c.loop-d.invariant.1 ∙ ap (cells_to _ _) (omega (arith, c.dims_of-k.ensures)) in
+    all ∙ cells-found _ _ (rw (← all) c.loop-d.invariant.2)

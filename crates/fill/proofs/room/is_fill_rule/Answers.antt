@@ -7,12 +7,12 @@ pub is_containment-requires : goal.is_containment-requires
 is_containment-requires c = (c.requires.1, c.requires.0.kinds _ c.requires.1.below)
 
 pub names_every_dim-requires : goal.names_every_dim-requires
-names_every_dim-requires c = c.before.before.requires
+names_every_dim-requires c = c.requires
 
 pub returns-then-is_containment : goal.returns-then-is_containment
 unfolding is_fill_rule
-returns-then-is_containment c = rw (sym c.before.before.is_containment.ensures ∙ c.before.if-is_containment.true) c.names_every_dim.ensures
+returns-then-is_containment c = rw (sym c.is_containment.ensures ∙ c.if-is_containment.true) c.names_every_dim.ensures
 
 pub returns-else-is_containment : goal.returns-else-is_containment
 unfolding is_fill_rule
-returns-else-is_containment c = rw (sym c.before.is_containment.ensures ∙ c.if-is_containment.false) c.if-is_containment.false
+returns-else-is_containment c = rw (sym c.is_containment.ensures ∙ c.if-is_containment.false) c.if-is_containment.false

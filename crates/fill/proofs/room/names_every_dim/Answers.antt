@@ -18,18 +18,15 @@ loop-d-init c = (search rules, all-zero _)
 
 pub names_dim-requires : goal.names_dim-requires
 names_dim-requires c =
-    let s = c.before.before.before in
-    (s.requires.1, s.requires.0.dim_sets _ s.requires.1.below, omega (arith, c.before.before.dims_of-k.ensures))
+    (c.requires.1, c.requires.0.dim_sets _ c.requires.1.below, omega (arith, c.dims_of-k.ensures))
 
 pub returns-then-not-names_dim : goal.returns-then-not-names_dim
 returns-then-not-names_dim c =
-    let l = c.before.before.before in
-    sym (all-false _ l.loop-d.d (omega (arith, l.before.dims_of-k.ensures)) (fails_by c.before.names_dim.ensures c.if-not-names_dim.true-raw))
+    sym (all-false _ c.loop-d.d (omega (arith, c.dims_of-k.ensures)) (fails_by c.names_dim.ensures c.if-not-names_dim.true-raw))
 
 pub loop-d-preserved : goal.loop-d-preserved
 loop-d-preserved c =
-    let l = c.before.before.before in
-    (search rules, all-next _ l.loop-d.invariant.1 (passes-by c.before.names_dim.ensures c.if-not-names_dim.false-raw))
+    (search rules, all-next _ c.loop-d.invariant.1 (passes-by c.names_dim.ensures c.if-not-names_dim.false-raw))
 
 pub returns : goal.returns
-returns c = sym (all_done _ c.before.loop-d.invariant.1 (omega (arith, c.before.before.dims_of-k.ensures)))
+returns c = sym (all_done _ c.loop-d.invariant.1 (omega (arith, c.dims_of-k.ensures)))

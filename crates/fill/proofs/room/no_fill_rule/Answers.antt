@@ -24,18 +24,16 @@ abbrev After-is_within : Type 0
 After-is_within = lts.After-is_within tie.the-claims reads.Pre reads.Post
 
 -- the answer of the range test, of the words themselves
-in-range : (c : After-is_within) → let s = c.before.before in
-    c.is_within.result ≡ within (pos 1) (pos (rules s.args.block.now)) s.args.rule
+in-range : (c : After-is_within) → c.is_within.result ≡ within (pos 1) (pos (rules c.args.block.now)) c.args.rule
 in-range c =
-    let s = c.before.before in
-    let l : c.before.rules_of.result < 2 ^ 63 = omega (arith, c.before.rules_of.ensures, s.requires.head.few_rules) in
-    c.is_within.ensures ∙ ap₂ (within (pos 1)) (to_z_pos w64 l ∙ ap pos c.before.rules_of.ensures) (to_z-of_z s.ranges.rule)
+    let l : c.rules_of.result < 2 ^ 63 = omega (arith, c.rules_of.ensures, c.requires.head.few_rules) in
+    c.is_within.ensures ∙ ap₂ (within (pos 1)) (to_z_pos w64 l ∙ ap pos c.rules_of.ensures) (to_z-of_z c.ranges.rule)
 
-number : (c : goal.Else-not-is_within) → let s = c.before.before.before in RuleNumber s.args.block.now s.args.rule
-number c = rule-number c.before.before.before.requires.head (passes-by (in-range c.before) c.if-not-is_within.false-raw)
+number : (c : goal.Else-not-is_within) → RuleNumber c.args.block.now c.args.rule
+number c = rule-number c.requires.head (passes-by (in-range c.before) c.if-not-is_within.false-raw)
 
-rule-cast : (c : goal.Else-not-is_within) → let s = c.before.before.before in nat_abs (to_z w64 (of_z w64 s.args.rule)) ≡ nat s.args.rule
-rule-cast c = let s = c.before.before.before in cast-nat s.args.rule s.ranges.rule.sfits (number c).count
+rule-cast : (c : goal.Else-not-is_within) → nat_abs (to_z w64 (of_z w64 c.args.rule)) ≡ nat c.args.rule
+rule-cast c = cast-nat c.args.rule c.ranges.rule.sfits (number c).count
 
 pub rules_of-requires : goal.rules_of-requires
 rules_of-requires c = c.requires.head
@@ -51,15 +49,14 @@ overflow_sub-rule c = rw (rule-cast c) (omega (arith, (number c).from))
 
 pub rule_place-requires : goal.rule_place-requires
 unfolding rule_asked
-rule_place-requires c = (c.before.before.before.requires.head, rw (rule-cast c) (number c).below)
+rule_place-requires c = (c.requires.head, rw (rule-cast c) (number c).below)
 
 pub is_fill_rule-requires : goal.is_fill_rule-requires
-is_fill_rule-requires c = (c.before.before.before.before.requires, c.rule_place.ensures.0)
+is_fill_rule-requires c = (c.requires, c.rule_place.ensures.0)
 
 pub returns : goal.returns
 unfolding rule_asked
 returns c =
-    let p = c.before in
-    let e = p.before in
-    ap not (c.is_fill_rule.ensures ∙ ap (is_fill_rule _) (p.rule_place.ensures.1 ∙ ap (λ (n : ℕ). n - 1) (rule-cast e)))
+    let e = c.before.before in
+    ap not (c.is_fill_rule.ensures ∙ ap (is_fill_rule _) (c.rule_place.ensures.1 ∙ ap (λ (n : ℕ). n - 1) (rule-cast e)))
     ∙ sym (one-asked _ _ (passes-by (in-range e.before) e.if-not-is_within.false-raw))

@@ -14,38 +14,36 @@ use Rattle.fill.proofs.Rooms.{low_near, high-near, across, across-from, across-u
 use Rattle.fill.proofs.room.width_of.Goals as goal
 
 high-in : (c : goal.After-room_high) → Within 1000000 c.room_high.result
-high-in c = within_by c.room_high.ensures (high-near c.before.requires.0 c.before.requires.1)
+high-in c = within_by c.room_high.ensures (high-near c.requires.0 c.requires.1)
 
 low-in : (c : goal.After-room_low) → Within 1000000 c.room_low.result
-low-in c = let s = c.before.before in within_by c.room_low.ensures (low_near s.requires.0 s.requires.1)
+low-in c = within_by c.room_low.ensures (low_near c.requires.0 c.requires.1)
 
 pub room_high-requires : goal.room_high-requires
 room_high-requires c = (c.requires.0.rule, c.requires.1)
 
 pub room_low-requires : goal.room_low-requires
-room_low-requires c = (c.before.requires.0.rule, c.before.requires.1)
+room_low-requires c = (c.requires.0.rule, c.requires.1)
 
 pub overflow_sub-result : goal.overflow_sub-result
 overflow_sub-result c = diff-fits (bnd (high-in c.before)) (bnd (low-in c)) tt
 
 -- the difference is the room's, from 0 to 2,000,000
 abbrev difference : goal.After-room_low → ℤ
-difference c = to_z w64 (of_z w64 c.before.room_high.result) -ℤ to_z w64 (of_z w64 c.room_low.result)
+difference c = to_z w64 (of_z w64 c.room_high.result) -ℤ to_z w64 (of_z w64 c.room_low.result)
 
-is-across : (c : goal.After-room_low) → let s = c.before.before in difference c ≡ across s.requires.0 s.requires.1
+is-across : (c : goal.After-room_low) → difference c ≡ across c.requires.0 c.requires.1
 is-across c =
-    let h = c.before.room_high in
+    let h = c.room_high in
     ap₂ ◌-ℤ◌ (read_back h.ensures h.type_inv) (read_back c.room_low.ensures c.room_low.type_inv)
 
 pub overflow_cast-result : goal.overflow_cast-result
 overflow_cast-result c =
-    let s = c.before.before in
-    let from : pos 0 ≤ℤ difference c = rw (is-across c) (across-from s.requires.0 s.requires.1) in
-    let upto : difference c ≤ℤ pos 2000000 = rw (is-across c) (across-upto s.requires.0 s.requires.1) in
+    let from : pos 0 ≤ℤ difference c = rw (is-across c) (across-from c.requires.0 c.requires.1) in
+    let upto : difference c ≤ℤ pos 2000000 = rw (is-across c) (across-upto c.requires.0 c.requires.1) in
     cast_ok from upto tt tt
 
 pub returns : goal.returns
 unfolding room_width
 returns c =
-    let s = c.before.before in
-    ap nat_abs (to_z-of_z (overflow_sub-result c) ∙ is-across c) ∙ nat-abs (across-from s.requires.0 s.requires.1)
+    ap nat_abs (to_z-of_z (overflow_sub-result c) ∙ is-across c) ∙ nat-abs (across-from c.requires.0 c.requires.1)

@@ -9,7 +9,7 @@ use Rattle.fill.proofs.Arrays.{Holds, one_more}
 use Rattle.fill.proofs.room.widths_of.Goals as goal
 
 few : (c : goal.After-dims_of-k) → c.dims_of-k.result ≤ 4
-few c = let k = c.before.requires.accepted.head.few_dims in omega (arith, c.dims_of-k.ensures)
+few c = let k = c.requires.accepted.head.few_dims in omega (arith, c.dims_of-k.ensures)
 
 pub dims_of-k-requires : goal.dims_of-k-requires
 dims_of-k-requires c = c.requires.accepted.head
@@ -18,25 +18,24 @@ pub loop-d-init : goal.loop-d-init
 loop-d-init c = (omega arith, search rules, λ e h. absurd (omega arith))
 
 pub width_of-requires : goal.width_of-requires
-width_of-requires c = (c.before.before.before.requires, omega (arith, c.before.before.dims_of-k.ensures))
+width_of-requires c = (c.requires, omega (arith, c.dims_of-k.ensures))
 
 pub offset_bounds-widths-d : goal.offset_bounds-widths-d
-offset_bounds-widths-d c = let k = few c.before.before.before in omega (arith, c.before.loop-d-test.true)
+offset_bounds-widths-d c = let k = few c.before.before.before in omega (arith, c.loop-d-test.true)
 
 pub bounds-widths-d : goal.bounds-widths-d
-bounds-widths-d c = let k = few c.before.before.before in omega (arith, c.before.loop-d-test.true)
+bounds-widths-d c = let k = few c.before.before.before in omega (arith, c.loop-d-test.true)
 
 pub loop-d-preserved : goal.loop-d-preserved
 loop-d-preserved c =
-    let l = c.before.before in
-    let a = l.before.before.args in
-    let k = few l.before in
-    let inv = l.loop-d.invariant in (
+    let a = c.args in
+    let k = few c.before.before.before in
+    let inv = c.loop-d.invariant in (
       omega arith,
       simp length-set inv.1,
-      one_more (IsWidth a.block.now a.r.number) l.loop-d.widths (omega (arith, inv.1, k, c.before.loop-d-test.true)) inv.2
+      one_more (IsWidth a.block.now a.r.number) c.loop-d.widths (omega (arith, inv.1, k, c.loop-d-test.true)) inv.2
           c.width_of_lem.ensures,
     )
 
 pub returns : goal.returns
-returns c = λ d h. c.before.loop-d.invariant.2 d (omega (arith, c.loop-d-test.false, c.before.before.dims_of-k.ensures))
+returns c = λ d h. c.loop-d.invariant.2 d (omega (arith, c.loop-d-test.false, c.dims_of-k.ensures))

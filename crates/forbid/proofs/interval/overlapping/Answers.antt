@@ -27,13 +27,13 @@ module _ (c : Start) where
   clearance = bnd c.requires.clearance
 
 pub overflow_sub-back_from_end : goal.overflow_sub-back_from_end
-overflow_sub-back_from_end c = diff-fits (num 0) (bnd c.before.before.requires.own_end) tt
+overflow_sub-back_from_end c = diff-fits (num 0) (bnd c.requires.own_end) tt
 
 pub overflow_sub-back_from_start : goal.overflow_sub-back_from_start
-overflow_sub-back_from_start c = diff-fits (num 0) (bnd c.before.before.before.before.requires.own_start) tt
+overflow_sub-back_from_start c = diff-fits (num 0) (bnd c.requires.own_start) tt
 
 pub overflow_add-result : goal.overflow_add-result
-overflow_add-result c = let s = c.before.before.before.before.before.before in sum_fits (bnd s.requires.highest) (bnd s.requires.other_start) tt
+overflow_add-result c = sum_fits (bnd c.requires.highest) (bnd c.requires.other_start) tt
 
 pub overflow_add-result-2 : goal.overflow_add-result-2
 overflow_add-result-2 c = let s = c.before.before.before.before.before.before in sum_fits (first s) (back-from-end s) tt

@@ -8,45 +8,38 @@ use Rattle.forbid.specs.Interval.{forbid_first, forbid_last}
 use Rattle.forbid.proofs.pair.interval_of.Goals as goal
 
 pub extent_of-own-requires : goal.extent_of-own-requires
-extent_of-own-requires c = let s = c.before in (s.requires.0.own_few, omega (arith, s.requires.1, s.requires.0.accepted.head.few_dims))
+extent_of-own-requires c = (c.requires.0.own_few, omega (arith, c.requires.1, c.requires.0.accepted.head.few_dims))
 
 pub extent_of-other-requires : goal.extent_of-other-requires
-extent_of-other-requires c = let s = c.before.before in (s.requires.0.other_few, omega (arith, s.requires.1, s.requires.0.accepted.head.few_dims))
+extent_of-other-requires c = (c.requires.0.other_few, omega (arith, c.requires.1, c.requires.0.accepted.head.few_dims))
 
 pub low_of-low-requires : goal.low_of-low-requires
 low_of-low-requires c =
-    let s = c.before.before.before in
-    let w = s.requires.0 in
-    (w.other_row, axis s.args.block.now s.requires.1)
+    let w = c.requires.0 in
+    (w.other_row, axis c.args.block.now c.requires.1)
 
 pub high_of-high-requires : goal.high_of-high-requires
 high_of-high-requires c =
-    let s = c.before.before.before.before in
-    let w = s.requires.0 in
-    (w.other_row, axis s.args.block.now s.requires.1)
+    let w = c.requires.0 in
+    (w.other_row, axis c.args.block.now c.requires.1)
 
 pub clearance_of-clearance-requires : goal.clearance_of-clearance-requires
-clearance_of-clearance-requires c = let s = c.before.before.before.before.before.before in (s.requires.0.rule, s.requires.1)
+clearance_of-clearance-requires c = (c.requires.0.rule, c.requires.1)
 
 pub overlapping-requires : goal.overlapping-requires
 overlapping-requires c =
-    let t = c.before.before in
-    let l = t.before in
-    let other = l.before in
-    let own = other.before in
-    let s = own.before.before in
-    let w = s.requires.0 in
+    let w = c.requires.0 in
     let j = w.other_row in
-    let h = s.requires.1 in
-    let d = axis s.args.block.now h in
-    let low = within_by (bits_back l.low_of-low.type_inv ∙ l.low_of-low.ensures) (w.table.lows _ _ j.from j.upto d) in
-    let high = within_by (bits_back t.high_of-high.type_inv ∙ t.high_of-high.ensures) (w.table.highs _ _ j.from j.upto d) in
+    let h = c.requires.1 in
+    let d = axis c.args.block.now h in
+    let low = within_by (bits_back c.low_of-low.type_inv ∙ c.low_of-low.ensures) (w.table.lows _ _ j.from j.upto d) in
+    let high = within_by (bits_back c.high_of-high.type_inv ∙ c.high_of-high.ensures) (w.table.highs _ _ j.from j.upto d) in
     let near = within_by (bits_back c.clearance_of-clearance.type_inv ∙ c.clearance_of-clearance.ensures) (w.accepted.clearances _ _ w.rule.below h) in
     record {
-      own_start = within_by own.extent_of-own.ensures.0 (w.own.starts _ h);
-      own_end = within_by own.extent_of-own.ensures.1 (w.own.ends _ h);
-      other_start = within_by other.extent_of-other.ensures.0 (w.other.starts _ h);
-      other_end = within_by other.extent_of-other.ensures.1 (w.other.ends _ h);
+      own_start = within_by c.extent_of-own.ensures.0 (w.own.starts _ h);
+      own_end = within_by c.extent_of-own.ensures.1 (w.own.ends _ h);
+      other_start = within_by c.extent_of-other.ensures.0 (w.other.starts _ h);
+      other_end = within_by c.extent_of-other.ensures.1 (w.other.ends _ h);
       lowest = search;
       highest = search;
       clearance = search;
@@ -55,16 +48,11 @@ overlapping-requires c =
 pub returns : goal.returns
 unfolding forbid_first forbid_last
 returns c =
-    let g = c.before in
-    let h = g.before.before in
-    let l = h.before in
-    let other = l.before in
-    let own = other.before in
     let e = c.overlapping.ensures in
-    let q = bits_back g.clearance_of-clearance.type_inv ∙ g.clearance_of-clearance.ensures in
+    let q = bits_back c.clearance_of-clearance.type_inv ∙ c.clearance_of-clearance.ensures in
     record {
-      from = e.0 ∙ rw (q, bits_back h.high_of-high.type_inv, h.high_of-high.ensures, own.extent_of-own.ensures.1, other.extent_of-other.ensures.0);
-      to = e.1 ∙ rw (q, bits_back l.low_of-low.type_inv, l.low_of-low.ensures, own.extent_of-own.ensures.0, other.extent_of-other.ensures.1);
+      from = e.0 ∙ rw (q, bits_back c.high_of-high.type_inv, c.high_of-high.ensures, c.extent_of-own.ensures.1, c.extent_of-other.ensures.0);
+      to = e.1 ∙ rw (q, bits_back c.low_of-low.type_inv, c.low_of-low.ensures, c.extent_of-own.ensures.0, c.extent_of-other.ensures.1);
       from_within = e.2;
       to_within = e.3;
     }

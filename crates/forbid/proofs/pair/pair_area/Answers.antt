@@ -20,11 +20,8 @@ use Rattle.points.proofs.Sums.{near-back}
 use Rattle.points.proofs.Fills.{Fills, fills-none, fills-skip, fills-set}
 use Rattle.forbid.specs.declared.pair.Pair.{Pair}
 use Rattle.forbid.specs.Pair.{side_forbids, solids_forbid}
+use Rattle.forbid.proofs.pair.pair_area.Invariants.{in_side}
 use Rattle.forbid.proofs.pair.pair_area.Goals as goal
-
--- the pair forbids p in dimension d, if the rule names d
-abbrev inSide : List ℤ → List ℤ → List ℤ → Pair → ℕ → List ℤ → Bool
-inSide block t o x d p = side_forbids block t o x d (word p d)
 
 pub dims_of-k-requires : goal.dims_of-k-requires
 dims_of-k-requires c = c.requires.accepted.head
@@ -41,10 +38,10 @@ module _ (c : goal.In-loop-d) where
   abbrev top : goal.Start
   top = c.before.before.before.before
 
-  is-dim : c.before.loop-d.d < dims c.before.before.before.before.args.block.now
-  is-dim = omega (arith, c.before.before.before.dims_of-k.ensures, c.loop-d-test.true)
+  is-dim : c.loop-d.d < dims c.args.block.now
+  is-dim = omega (arith, c.dims_of-k.ensures, c.loop-d-test.true)
 
-  few : c.before.loop-d.d < coordinates
+  few : c.loop-d.d < coordinates
   few = omega (arith, is-dim, top.requires.accepted.head.few_dims)
 
 pub names_dim-requires : goal.names_dim-requires
@@ -57,27 +54,26 @@ pub offset_bounds-low-d : goal.offset_bounds-low-d
 offset_bounds-low-d c = omega (arith, few c.before.before.before.before.before)
 
 pub bounds-low-d : goal.bounds-low-d
-bounds-low-d c = let l = c.before.before.before.before.before in omega (arith, few l, l.before.loop-d.invariant.1)
+bounds-low-d c = let l = c.before.before.before.before.before in omega (arith, few l, l.loop-d.invariant.1)
 
 pub offset_bounds-high-d : goal.offset_bounds-high-d
 offset_bounds-high-d c = omega (arith, few c.before.before.before.before.before)
 
 pub bounds-high-d : goal.bounds-high-d
-bounds-high-d c = let l = c.before.before.before.before.before in omega (arith, few l, l.before.loop-d.invariant.2)
+bounds-high-d c = let l = c.before.before.before.before.before in omega (arith, few l, l.loop-d.invariant.2)
 
 pub overflow_add-d : goal.overflow_add-d
 overflow_add-d c = omega (arith, few c.before.before)
 
 pub loop-d-smaller : goal.loop-d-smaller
-loop-d-smaller c = omega (arith, c.before.before.loop-d-test.true)
+loop-d-smaller c = omega (arith, c.loop-d-test.true)
 
 pub loop-d-preserved : goal.loop-d-preserved
 unfolding side_forbids
 loop-d-preserved c =
-    let n = c.before in
-    let l = n.before in
-    let i = l.before.loop-d.invariant in
-    let d = l.before.loop-d.d in
+    let l = c.before.before in
+    let i = l.loop-d.invariant in
+    let d = l.loop-d.d in
     let s = top l in
     let x = axis s.args.block.now (is-dim l) in (
       omega (arith, l.loop-d-test.true),
@@ -89,15 +85,13 @@ loop-d-preserved c =
           let to = near-back f.to_within in
           rw (w.4, w.5) (fills-set _ i.3 (within_by from f.from_within) (within_by to f.to_within) (few l) x i.1 i.2
           (λ p. ap₂ (λ (y z : ℤ). within y z (word p d)) (from ∙ f.from) (to ∙ f.to)
-          ∙ sym (implies-in _ (sym n.names_dim.ensures ∙ w.0.taken)))))
-          (λ w. rw (w.1, w.2) (fills-skip _ i.3 (λ p. implies-out _ (sym n.names_dim.ensures ∙ w.0.left))))
+          ∙ sym (implies-in _ (sym c.names_dim.ensures ∙ w.0.taken)))))
+          (λ w. rw (w.1, w.2) (fills-skip _ i.3 (λ p. implies-out _ (sym c.names_dim.ensures ∙ w.0.left))))
           c.if-names_dim.branch,
     )
 
 pub returns : goal.returns
 unfolding solids_forbid
 returns c =
-    let l = c.before in
-    let n = l.before.before in
-    let q : l.loop-d.d ≡ dims n.before.args.block.now = omega (arith, n.dims_of-k.ensures, l.loop-d.invariant.0, c.loop-d-test.false) in
-    rw q at l.loop-d.invariant.3.cuts
+    let q : c.loop-d.d ≡ dims c.args.block.now = omega (arith, c.dims_of-k.ensures, c.loop-d.invariant.0, c.loop-d-test.false) in
+    rw q at c.loop-d.invariant.3.cuts

@@ -22,8 +22,8 @@ abbrev At-loop-d : Type 0
 At-loop-d = lts.At-loop tie.the-claims reads.Pre reads.Post goal.the-invariant-loop-d goal.the-decreases-loop-d
 
 -- the dimension at hand is one of the sheet's
-below-dims : (c : goal.Else-d-k) → c.before.before.loop-d.d < dims c.before.before.before.before.args.block.now
-below-dims c = let l = c.before.before in omega (arith, l.before.dims_of-k.ensures, l.loop-d.invariant.0, c.if-d-k.false)
+below-dims : (c : goal.Else-d-k) → c.loop-d.d < dims c.args.block.now
+below-dims c = omega (arith, c.dims_of-k.ensures, c.loop-d.invariant.0, c.if-d-k.false)
 
 pub dims_of-k-requires : goal.dims_of-k-requires
 dims_of-k-requires c = c.requires.accepted.head
@@ -34,17 +34,16 @@ loop-d-init c = (omega arith, all-zero _)
 pub returns-then-d-k : goal.returns-then-d-k
 unfolding solids_forbid
 returns-then-d-k c =
-    let l = c.before.before in
-    sym (rw (c.if-d-k.true ∙ l.before.dims_of-k.ensures) at l.loop-d.invariant.1)
+    sym (rw (c.if-d-k.true ∙ c.dims_of-k.ensures) at c.loop-d.invariant.1)
 
 pub offset_bounds-p-d : goal.offset_bounds-p-d
-offset_bounds-p-d c = omega (arith, below-dims c, c.before.before.before.before.requires.accepted.head.few_dims)
+offset_bounds-p-d c = omega (arith, below-dims c, c.requires.accepted.head.few_dims)
 
 pub bounds-p-d : goal.bounds-p-d
-bounds-p-d c = omega (arith, below-dims c, c.before.before.before.before.requires.accepted.head.few_dims)
+bounds-p-d c = omega (arith, below-dims c, c.requires.accepted.head.few_dims)
 
 pub side_forbids-requires : goal.side_forbids-requires
-side_forbids-requires c = (c.before.before.before.before.before.requires, below-dims c.before)
+side_forbids-requires c = (c.requires, below-dims c.before)
 
 module _ (c : After-side_forbids) where
   abbrev l : At-loop-d
@@ -60,7 +59,7 @@ module _ (c : After-side_forbids) where
   tested : c.side_forbids.result ≡ test l.loop-d.d
   tested =
       c.side_forbids.ensures
-      ∙ ap (side_forbids _ _ _ _ _) (bits_back {z = word s.args.p l.loop-d.d} c.before.side_forbids-arg-1.given)
+      ∙ ap (side_forbids _ _ _ _ _) (bits_back {z = word s.args.p l.loop-d.d} c.side_forbids-arg-1.given)
 
 pub returns-then-not-side_forbids : goal.returns-then-not-side_forbids
 unfolding solids_forbid
@@ -69,7 +68,7 @@ returns-then-not-side_forbids c =
     sym (all-false (test b) (l b).loop-d.d (below-dims b.before.before) (sym (tested b) ∙ not-true c.if-not-side_forbids.true-raw))
 
 pub overflow_add-d : goal.overflow_add-d
-overflow_add-d c = omega (arith, c.before.before.before.before.loop-d-test.true)
+overflow_add-d c = omega (arith, c.loop-d-test.true)
 
 pub loop-d-smaller : goal.loop-d-smaller
 loop-d-smaller c = omega (arith, below-dims c.before.before.before)
@@ -83,8 +82,6 @@ loop-d-preserved c =
 pub returns : goal.returns
 unfolding solids_forbid
 returns c =
-    let l = c.before in
-    let n = l.before in
-    let few = n.before.requires.accepted.head.few_dims in
-    let q : l.loop-d.d ≡ dims n.before.args.block.now = omega (arith, n.dims_of-k.ensures, l.loop-d.invariant.0, few, c.loop-d-test.false) in
-    sym (rw q at l.loop-d.invariant.1)
+    let few = c.requires.accepted.head.few_dims in
+    let q : c.loop-d.d ≡ dims c.args.block.now = omega (arith, c.dims_of-k.ensures, c.loop-d.invariant.0, few, c.loop-d-test.false) in
+    sym (rw q at c.loop-d.invariant.1)

@@ -27,10 +27,14 @@ use Rattle.forbid.specs.Pair.{side_forbids, solids_forbid}
 use Rattle.forbid.specs.Region.{no_region}
 use Rattle.forbid.proofs.pair.pair_meets.Given as goal
 
+-- the pair forbids p in dimension d, if the rule names d
+abbrev pub in_side : List ℤ → List ℤ → List ℤ → Pair → ℕ → List ℤ → Bool
+in_side block t o x d p = side_forbids block t o x d (word p d)
+
 abbrev pub invariant-loop-d : goal.invariant-loop-d
-invariant-loop-d l = 
+invariant-loop-d l =
     (l.d ≤ l.k) × (length l.low ≡ coordinates) × (length l.high ≡ coordinates)
-    × Fills (axes l.block) l.d (record { l.low = l.low; l.high = l.high }) (inSide l.block l.table l.outline l.pair)
+    × Fills (axes l.block) l.d (record { low = l.low; high = l.high }) (in_side l.block l.table l.outline l.pair)
 
 abbrev pub decreases-loop-d : goal.decreases-loop-d
 decreases-loop-d l = l.k - l.d

@@ -8,16 +8,15 @@ use Rattle.forbid.proofs.pair.side_forbids.Goals as goal
 
 pub names_dim-requires : goal.names_dim-requires
 names_dim-requires c =
-    let s = c.before in
-    let w = s.requires.0 in
-    (w.rule, w.accepted.dim_sets _ w.rule.below, s.requires.1)
+    let w = c.requires.0 in
+    (w.rule, w.accepted.dim_sets _ w.rule.below, c.requires.1)
 
 pub returns-then-not-names_dim : goal.returns-then-not-names_dim
 unfolding side_forbids
-returns-then-not-names_dim c = sym (implies-out _ (sym c.before.names_dim.ensures ∙ not-true c.if-not-names_dim.true-raw))
+returns-then-not-names_dim c = sym (implies-out _ (sym c.names_dim.ensures ∙ not-true c.if-not-names_dim.true-raw))
 
 pub interval_of-interval-requires : goal.interval_of-interval-requires
-interval_of-interval-requires c = c.before.before.before.requires
+interval_of-interval-requires c = c.requires
 
 pub is_within-requires : goal.is_within-requires
 is_within-requires c = tt
@@ -25,9 +24,7 @@ is_within-requires c = tt
 pub returns : goal.returns
 unfolding side_forbids
 returns c =
-    let v = c.before.before.before in
-    let n = v.before.before in
-    let f = v.interval_of-interval.ensures in
+    let f = c.interval_of-interval.ensures in
     c.is_within.ensures
-    ∙ rw (near-back f.from_within, near-back f.to_within, to_z-of_z n.before.before.ranges.x, f.from, f.to)
-    (sym (implies-in _ (sym n.names_dim.ensures ∙ not-false v.before.if-not-names_dim.false-raw)))
+    ∙ rw (near-back f.from_within, near-back f.to_within, to_z-of_z c.ranges.x, f.from, f.to)
+    (sym (implies-in _ (sym c.names_dim.ensures ∙ not-false c.if-not-names_dim.false-raw)))

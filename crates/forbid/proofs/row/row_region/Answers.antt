@@ -10,11 +10,11 @@ pub none-requires : goal.none-requires
 none-requires c = tt
 
 pub returns-then-other-i : goal.returns-then-other-i
-returns-then-other-i c = missed (itself-none _ _ _ _ _ _ (sym c.before.if-other-i.true) _) c.none.ensures
+returns-then-other-i c = missed (itself-none _ _ _ _ _ _ (sym c.if-other-i.true) _) c.none.ensures
 
 pub names_row-requires : goal.names_row-requires
 names_row-requires c =
-    let w = c.before.requires in
+    let w = c.requires in
     (w.rule, w.at_point.accepted.row_sets _ w.rule.below, row-bit w.row)
 
 pub none-requires-then-not-names_row : goal.none-requires-then-not-names_row
@@ -22,16 +22,14 @@ none-requires-then-not-names_row c = tt
 
 pub returns-then-not-names_row : goal.returns-then-not-names_row
 returns-then-not-names_row c =
-    let n = c.before.before in
-    missed (unnamed-none _ _ _ _ _ _ (λ e. n.before.if-other-i.false (sym e)) (sym n.names_row.ensures ∙ not-true c.before.if-not-names_row.true-raw) _)
+    missed (unnamed-none _ _ _ _ _ _ (λ e. c.if-other-i.false (sym e)) (sym c.names_row.ensures ∙ not-true c.if-not-names_row.true-raw) _)
     c.none-then-not-names_row.ensures
 
 pub set_region-requires : goal.set_region-requires
-set_region-requires c = c.before.before.before.requires
+set_region-requires c = c.requires
 
 pub returns : goal.returns
 returns c =
-    let n = c.before.before in
     forbids-same
-    (named_set _ _ _ _ _ _ (λ e. n.before.if-other-i.false (sym e)) (sym n.names_row.ensures ∙ not-false c.before.if-not-names_row.false-raw))
+    (named_set _ _ _ _ _ _ (λ e. c.if-other-i.false (sym e)) (sym c.names_row.ensures ∙ not-false c.if-not-names_row.false-raw))
     (c.set_region.ensures _)

@@ -31,15 +31,14 @@ pub field-area-requires : goal.field-area-requires
 field-area-requires c = tt
 
 pub overflow_cast-t : goal.overflow_cast-t
-overflow_cast-t c = omega (arith, trailing_le 32 c.before.shapes_of-set.result)
+overflow_cast-t c = omega (arith, trailing_le 32 c.shapes_of-set.result)
 
 pub loop-t-init : goal.loop-t-init
 loop-t-init c =
-    let set = c.before in
-    let w = set.before.before.requires.at_point in (
-      trailing_le 32 set.shapes_of-set.result,
+    let w = c.requires.at_point in (
+      trailing_le 32 c.shapes_of-set.result,
       λ i. rw c.field-area.ensures
-          (let none = shapes-none _ _ _ i _ _ _ (none_before _ _ _ set.shapes_of-set.ensures) in
+          (let none = shapes-none _ _ _ i _ _ _ (none_before _ _ _ c.shapes_of-set.ensures) in
           cut-region w.accepted.head.few_axes w.near (none _) (cuts-none none)),
     )
 
@@ -51,11 +50,11 @@ module _ (c : goal.In-loop-t) where
   abbrev top : goal.Start
   top = c.before.before.before.before.before
 
-  few : c.before.loop-t.t + 1 ≤ 32
+  few : c.loop-t.t + 1 ≤ 32
   few = omega (arith, c.loop-t-test.true)
 
-  is-axes : c.before.before.before.before.axes_of-k.result ≡ axes top.args.block.now
-  is-axes = c.before.before.before.before.axes_of-k.ensures
+  is-axes : c.axes_of-k.result ≡ axes top.args.block.now
+  is-axes = c.axes_of-k.ensures
 
 pub overflow_add-t : goal.overflow_add-t
 overflow_add-t c = omega (arith, few c.before.before)
@@ -68,8 +67,8 @@ module _ (c : goal.Then-has_shape) where
   abbrev turn : goal.In-loop-t
   turn = c.before.before.before.before
 
-  held : let a = (top turn).args in has_shape a.block.now a.table.now a.j.number (turn.before.loop-t.t + 1) ≡ true
-  held = sym c.before.has_shape.ensures ∙ c.if-has_shape.true
+  held : let a = (top turn).args in has_shape a.block.now a.table.now a.j.number (turn.loop-t.t + 1) ≡ true
+  held = sym c.has_shape.ensures ∙ c.if-has_shape.true
 
 pub overflow_add-t-then-has_shape : goal.overflow_add-t-then-has_shape
 overflow_add-t-then-has_shape c = omega (arith, few (turn c))
@@ -79,50 +78,45 @@ shapes_region-x-requires c = let w = (top (turn c)).requires in (w, w.at_point.t
 
 pub returns-then-not-hit : goal.returns-then-not-hit
 returns-then-not-hit c =
-    let x = c.before in
-    let h = x.before in
+    let h = c.before.before in
     let missed = not-true c.if-not-hit.true-raw in
-    λ i. missed-too (x.shapes_region-x.ensures i) missed
-    (set-missed _ _ _ i _ _ _ (few (turn h)) (held h) _ (miss (x.shapes_region-x.ensures i) missed))
+    λ i. missed-too (c.shapes_region-x.ensures i) missed
+    (set-missed _ _ _ i _ _ _ (few (turn h)) (held h) _ (miss (c.shapes_region-x.ensures i) missed))
 
 pub common-area-requires : goal.common-area-requires
 common-area-requires c =
-    let x = c.before in
-    let l = turn x.before in
-    (omega (arith, is-axes l, (top l).requires.at_point.accepted.head.few_axes), (x.shapes_region-x.ensures 0).small)
+    let l = turn c.before.before.before in
+    (omega (arith, is-axes l, (top l).requires.at_point.accepted.head.few_axes), (c.shapes_region-x.ensures 0).small)
 
 pub overflow_add-t-in-loop-t : goal.overflow_add-t-in-loop-t
 overflow_add-t-in-loop-t c = omega (arith, few c.before.before.before.before)
 
 pub loop-t-smaller : goal.loop-t-smaller
-loop-t-smaller c = omega (arith, c.before.before.before.before.loop-t-test.true)
+loop-t-smaller c = omega (arith, c.loop-t-test.true)
 
 pub loop-t-preserved : goal.loop-t-preserved
 loop-t-preserved c =
-    let h = c.before in
-    let l = h.before.before.before in
-    let before = l.before.loop-t.invariant.1 in (
+    let l = c.before.before.before.before in
+    let before = l.loop-t.invariant.1 in (
       few l,
       λ i. ⊎_elim
-          (λ w. rw w.4 (forbids-same (shapes-more _ _ _ i _ _ _ (sym h.has_shape.ensures ∙ w.0.taken))
+          (λ w. rw w.4 (forbids-same (shapes-more _ _ _ i _ _ _ (sym c.has_shape.ensures ∙ w.0.taken))
           (forbids-both (before i) (not-false w.2.left) (w.1.ensures i) (rw (is-axes l) at w.3.ensures))))
-          (λ w. rw w.1 (forbids-same (shapes-skip _ _ _ i _ _ _ (sym h.has_shape.ensures ∙ w.0.left)) (before i)))
+          (λ w. rw w.1 (forbids-same (shapes-skip _ _ _ i _ _ _ (sym c.has_shape.ensures ∙ w.0.left)) (before i)))
           c.if-has_shape.branch,
     )
 
 pub returns-after-loop-t : goal.returns-after-loop-t
 returns-after-loop-t c =
-    let l = c.before in
-    let set = is_set l.before.before.before.before in
-    let inv = l.loop-t.invariant in
+    let set = is_set c.before.before.before.before.before in
+    let inv = c.loop-t.invariant in
     λ i. forbids-same (shapes-all _ _ _ i _ _ _ inv.0 (λ x h.
     none-past _ _ _ {s = 32} set (set_below 32 set.upto) (omega (arith, h, c.loop-t-test.false)))) (inv.1 i)
 
 pub returns-then-is_below : goal.returns-then-is_below
 returns-then-is_below c =
-    let b = c.before in
-    let l = b.before in
-    let inv = l.before.loop-t.invariant in
-    let is = l.before.before.before.shapes_of-set.ensures in
-    let none = subst (λ (n : ℕ). n < 2 ^ l.before.loop-t.t) is (b.is_below.ensures.0 c.if-is_below.true) in
+    let l = c.before.before in
+    let inv = l.loop-t.invariant in
+    let is = l.shapes_of-set.ensures in
+    let none = subst (λ (n : ℕ). n < 2 ^ l.loop-t.t) is (c.is_below.ensures.0 c.if-is_below.true) in
     λ i. forbids-same (shapes-all _ _ _ i _ _ _ inv.0 (λ x h. none-past _ _ _ (is_set (top l)) none h)) (inv.1 i)

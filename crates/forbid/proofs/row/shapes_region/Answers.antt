@@ -11,31 +11,30 @@ pub forbidding_boxes-boxes-requires : goal.forbidding_boxes-boxes-requires
 forbidding_boxes-boxes-requires c = c.requires
 
 pub boxes_of-requires : goal.boxes_of-requires
-boxes_of-requires c = c.before.requires.0.at_point.accepted.head
+boxes_of-requires c = c.requires.0.at_point.accepted.head
 
 pub none-requires : goal.none-requires
 none-requires c = tt
 
 pub returns-then-other-boxes_of : goal.returns-then-other-boxes_of
 returns-then-other-boxes_of c =
-    let n = c.before.before in
-    λ i. missed (n.before.forbidding_boxes-boxes.ensures.none (omega (arith, n.boxes_of.ensures, c.before.if-other-boxes_of.true)) i) c.none.ensures
+    λ i. missed (c.forbidding_boxes-boxes.ensures.none (omega (arith, c.boxes_of.ensures, c.if-other-boxes_of.true)) i) c.none.ensures
 
 -- the pair
-pair-at : (c : goal.Else-other-boxes_of) → let f = c.before.before in let a = f.before.args in
-    PairAt a.block.now a.table.now a.outline.now a.r a.s a.j a.t a.p f.forbidding_boxes-boxes.result
-pair-at c = c.before.before.forbidding_boxes-boxes.ensures.pair (omega (arith, c.before.boxes_of.ensures, c.if-other-boxes_of.false))
+pair-at : (c : goal.Else-other-boxes_of) → let a = c.args in
+    PairAt a.block.now a.table.now a.outline.now a.r a.s a.j a.t a.p c.forbidding_boxes-boxes.result
+pair-at c = c.forbidding_boxes-boxes.ensures.pair (omega (arith, c.boxes_of.ensures, c.if-other-boxes_of.false))
 
 pub pair_area-requires : goal.pair_area-requires
 pair_area-requires c =
-    let w = c.before.before.before.requires.0 in
+    let w = c.requires.0 in
     let x = pair-at c in
     box-places w.at_point.accepted w.at_point.table w.at_point.outline w.rule w.row x.own_below x.other_below
 
 pub returns : goal.returns
 returns c =
     let e = c.before in
-    let w = e.before.before.before.requires.0.at_point in
+    let w = e.requires.0.at_point in
     let x = pair-at e in
     λ i. forbids-by (λ q f. shapes-by _ _ _ _ _ _ _ q (record {
       own = _;

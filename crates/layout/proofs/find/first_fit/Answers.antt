@@ -27,10 +27,10 @@ pub loop-table-init : goal.loop-table-init
 loop-table-init c = part-refl c.args.block.now c.args.table.now c.requires
 
 pub settled-requires : goal.settled-requires
-settled-requires c = c.before.loop-table.invariant.accepted
+settled-requires c = c.loop-table.invariant.accepted
 
 pub shape_of-table-then-not-settled : goal.shape_of-table-then-not-settled
-shape_of-table-then-not-settled c = c.before.table-1.given ∙ c.before.before.before.before.loop-table.invariant.inside.as_long
+shape_of-table-then-not-settled c = c.table-1.given ∙ c.loop-table.invariant.inside.as_long
 
 pub returns-then-not-settled : goal.returns-then-not-settled
 returns-then-not-settled c = λ e. clash e refl
@@ -41,41 +41,41 @@ module _ (c : goal.Else-not-settled) where
   l = c.before.before.before.before
 
   abbrev block : List ℤ
-  block = l.before.args.block.now
+  block = l.args.block.now
 
   abbrev t : List ℤ
   t = l.loop-table.table
 
   abbrev v : List ℤ
-  v = c.before.before.settled.new.table
+  v = c.settled.new.table
 
   found : settle_of block t ≡ some v
-  found = c.before.before.settled.ensures.yes (not-false c.if-not-settled.false-raw)
+  found = c.settled.ensures.yes (not-false c.if-not-settled.false-raw)
 
   settled : Part block t v
   settled = settled-part block t l.loop-table.invariant.accepted v found
 
 pub first_open-s-requires : goal.first_open-s-requires
 first_open-s-requires c =
-    let d = c.before in
+    let d = c in
     (accepted-head (block d) (v d) (settled d).accepted, accepted-table (block d) (v d) (settled d).accepted)
 
 pub shape_of-table-then-s-eq0 : goal.shape_of-table-then-s-eq0
-shape_of-table-then-s-eq0 c = let d = c.before.before.before.before in (settled d).inside.as_long ∙ (l d).loop-table.invariant.inside.as_long
+shape_of-table-then-s-eq0 c = let d = c.before.before.before in (settled d).inside.as_long ∙ (l d).loop-table.invariant.inside.as_long
 
 pub returns-then-s-eq0 : goal.returns-then-s-eq0
 returns-then-s-eq0 c =
-    let d = c.before.before.before.before in
+    let d = c.before.before.before in
     let i = (l d).loop-table.invariant in
-    λ _. i.places (v d) (settle-places (block d) (t d) i.accepted (v d) (found d) (c.before.before.first_open-s.ensures.none c.if-s-eq0.true))
+    λ _. i.places (v d) (settle-places (block d) (t d) i.accepted (v d) (found d) (c.first_open-s.ensures.none c.if-s-eq0.true))
 
 -- the number that is split
 module _ (c : Else-s-eq0) where
   abbrev d : goal.Else-not-settled
-  d = c.before.before.before.before
+  d = c.before.before.before
 
-  split : let r = c.before.before.first_open-s.result in SplitAt (block d) (v d) r.row r.column r.at
-  split = c.before.before.first_open-s.ensures.some (omega (arith, c.if-s-eq0.false))
+  split : let r = c.first_open-s.result in SplitAt (block d) (v d) r.row r.column r.at
+  split = c.first_open-s.ensures.some (omega (arith, c.if-s-eq0.false))
 
 pub keep_upto-requires : goal.keep_upto-requires
 keep_upto-requires c =
@@ -89,7 +89,7 @@ loop-table-smaller c =
     let e = d x in
     let less = upto-falls (block e) (v e) (settled e).accepted _ _ _ (split x) in
     let kept = settle-falls (block e) (t e) (l e).loop-table.invariant.accepted (v e) (found e) in
-    rw c.before.keep_upto.ensures (omega (arith, less, kept))
+    rw c.keep_upto.ensures (omega (arith, less, kept))
 
 pub loop-table-preserved : goal.loop-table-preserved
 loop-table-preserved c =
@@ -97,4 +97,4 @@ loop-table-preserved c =
     let e = d x in
     let s = split x in
     part-trans (l e).loop-table.invariant
-    (part-trans (settled e) (rw c.before.keep_upto.ensures (upto-part (block e) (v e) (settled e).accepted _ _ s.has _ s.from)))
+    (part-trans (settled e) (rw c.keep_upto.ensures (upto-part (block e) (v e) (settled e).accepted _ _ s.has _ s.from)))

@@ -34,12 +34,12 @@ pub slice_bounds-copy-end : goal.slice_bounds-copy-end
 slice_bounds-copy-end c = sym (length-take-le _ (replicate layout_table_most (pos 0)) (short c.before))
 
 pub copy-requires : goal.copy-requires
-copy-requires c = length-take-le _ (replicate layout_table_most (pos 0)) (short c.before.before)
+copy-requires c = length-take-le _ (replicate layout_table_most (pos 0)) (short c.before)
 
 -- the copy, at the start of the array
 module _ (c : After-copy) where
   abbrev s : goal.Start
-  s = c.before.before.before
+  s = c.before.before
 
   abbrev t : List ℤ
   t = s.args.table.now
@@ -70,10 +70,10 @@ module _ (c : Then-first_fit) where
   a = c.before.before.before.before.before
 
   abbrev outcome : List ℤ
-  outcome = c.before.before.first_fit.new.table
+  outcome = c.first_fit.new.table
 
   placed : Places (s a).args.block.now (t a) outcome
-  placed = subst (λ (w : List ℤ). Places (s a).args.block.now w outcome) (in-front a) (c.before.before.first_fit.ensures c.if-first_fit.true)
+  placed = subst (λ (w : List ℤ). Places (s a).args.block.now w outcome) (in-front a) (c.first_fit.ensures c.if-first_fit.true)
 
   abbrev after : List ℤ
   after = outcome ++ drop (length (t a)) (array a)
@@ -97,6 +97,6 @@ pub returns-then-first_fit : goal.returns-then-first_fit
 returns-then-first_fit c =
     let e = c.before.before.before.before in
     record {
-      yes = λ _. subst (Places (s (a e)).args.block.now (t (a e))) (sym (c.before.copy-then-first_fit.ensures ∙ outcome-front e)) (placed e);
+      yes = λ _. subst (Places (s (a e)).args.block.now (t (a e))) (sym (c.copy-then-first_fit.ensures ∙ outcome-front e)) (placed e);
       no = λ q. clash refl q;
     }

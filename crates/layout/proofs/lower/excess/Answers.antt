@@ -21,7 +21,7 @@ pub least_of-low-requires : goal.least_of-low-requires
 least_of-low-requires c = on-rest c.args.block.now c.requires
 
 pub least_of-high-requires : goal.least_of-high-requires
-least_of-high-requires c = let s = c.before in on-best s.args.block.now s.requires
+least_of-high-requires c = on-best c.args.block.now c.requires
 
 -- the two values
 module _ (c : goal.After-struct_told-2-1) where
@@ -44,7 +44,7 @@ module _ (c : goal.After-struct_told-2-1) where
   best = s.args.best.now
 
   low : to_z w64 (of_z w64 l.least_of-low.result.at) ≡ number_at block rest s.args.m
-  low = bits_back {z = l.least_of-low.result.at} c.before.struct_told-1.given.1.1.0.1 ∙ l.least_of-low.ensures.least
+  low = bits_back {z = l.least_of-low.result.at} c.struct_told-1.given.1.1.0.1 ∙ l.least_of-low.ensures.least
 
   high : to_z w64 (of_z w64 h.least_of-high.result.at) ≡ number_at block best s.args.m
   high = bits_back {z = h.least_of-high.result.at} c.struct_told-2-1.given.1.1.0.1 ∙ h.least_of-high.ensures.least

@@ -30,10 +30,10 @@ abbrev After-halfway-at : Type 0
 After-halfway-at = lts.After-halfway tie.the-claims reads.Pre reads.Post
 
 pub least_of-low-requires : goal.least_of-low-requires
-least_of-low-requires c = let s = c.before in on-rest s.args.block.now s.requires
+least_of-low-requires c = on-rest c.args.block.now c.requires
 
 pub least_of-high-requires : goal.least_of-high-requires
-least_of-high-requires c = let s = c.before.before.before in on-best s.args.block.now s.requires
+least_of-high-requires c = on-best c.args.block.now c.requires
 
 -- the two values that are compared
 module _ (c : After-struct_told-2-1) where
@@ -41,10 +41,10 @@ module _ (c : After-struct_told-2-1) where
   h = c.before.before.before.before
 
   abbrev l : goal.After-least_of-low
-  l = h.before.before
+  l = h.before
 
   abbrev s : goal.Start
-  s = l.before.before
+  s = l.before
 
   abbrev block : List ℤ
   block = s.args.block.now
@@ -68,7 +68,7 @@ module _ (c : After-struct_told-2-1) where
   low = bits_back {z = l.least_of-low.result.at} c.struct_told-2-1.given.1.1.0.1 ∙ low-is.least
 
   high : to_z w64 (of_z w64 h.least_of-high.result.at) ≡ number_at block best m
-  high = bits_back {z = h.least_of-high.result.at} c.before.before.struct_told-1.given.1.1.0.1 ∙ high_is.least
+  high = bits_back {z = h.least_of-high.result.at} c.struct_told-1.given.1.1.0.1 ∙ high_is.least
 
 pub returns-then-high-low : goal.returns-then-high-low
 returns-then-high-low c = let d = c.before in halved_none (block d) (s d).requires (omega (ints, low d, high d, c.if-high-low.true))
@@ -76,7 +76,7 @@ returns-then-high-low c = let d = c.before in halved_none (block d) (s d).requir
 pub halfway-at-requires : goal.halfway-at-requires
 halfway-at-requires c =
     let d = c.before.before.before in (
-      omega (ints, low d, high d, c.before.before.if-high-low.false),
+      omega (ints, low d, high d, c.if-high-low.false),
       within_by (low d ∙ sym (low-is d).least) (low-is d).near,
       within_by (high d ∙ sym (high_is d).least) (high_is d).near,
     )
@@ -117,8 +117,7 @@ probe-requires c =
 
 pub returns : goal.returns
 returns c =
-    let p = c.before.before in
-    let a = p.before.before.before.before in
+    let a = c.before.before.before.before.before.before in
     let e = d a in
     halved-by (block e) (s e).requires (z a) (from a) (less a)
-    (subst (λ (q : Split). Probed (block e) (rest e) (best e) q p.probe.new.rest p.probe.new.rest.1.0) (same-split a) p.probe.ensures)
+    (subst (λ (q : Split). Probed (block e) (rest e) (best e) q c.probe.new.rest c.probe.new.rest.1.0) (same-split a) c.probe.ensures)

@@ -14,18 +14,18 @@ use Rattle.words.proofs.Reading.{read_back}
 use Rattle.layout.proofs.lower.least_of.Goals as goal
 
 pub overflow_add-columns : goal.overflow_add-columns
-overflow_add-columns c = let k = c.axes_of-columns.ensures in let f = c.before.requires.0.head.few_axes in omega arith
+overflow_add-columns c = let k = c.axes_of-columns.ensures in let f = c.requires.0.head.few_axes in omega arith
 
 -- the row and the column
 module _ (c : goal.After-axes_of-columns) where
   abbrev block : List ℤ
-  block = c.before.args.block.now
+  block = c.args.block.now
 
   abbrev t : List ℤ
-  t = c.before.args.table.now
+  t = c.args.table.now
 
   abbrev m : ℕ
-  m = c.before.args.m
+  m = c.args.m
 
   columns : c.axes_of-columns.result + 1 ≡ per_row block
   unfolding per_row
@@ -38,13 +38,13 @@ module _ (c : goal.After-axes_of-columns) where
   is-column = ap (λ (n : ℕ). m % n) columns
 
   has : HasNumber block t (m / (c.axes_of-columns.result + 1) + 1) (m % (c.axes_of-columns.result + 1))
-  has = rw (is_row, is-column) (position-number block t m c.before.requires.1)
+  has = rw (is_row, is-column) (position-number block t m c.requires.1)
 
 pub overflow_add-row : goal.overflow_add-row
-overflow_add-row c = let h = (has c).upto in let f = c.before.requires.0.table.whole.few_rows in omega arith
+overflow_add-row c = let h = (has c).upto in let f = c.requires.0.table.whole.few_rows in omega arith
 
 pub number-at-requires : goal.number-at-requires
-number-at-requires c = let o = c.before.requires.0 in record { head = o.head; table = o.table; has = has c }
+number-at-requires c = let o = c.requires.0 in record { head = o.head; table = o.table; has = has c }
 
 pub returns : goal.returns
 unfolding number_at

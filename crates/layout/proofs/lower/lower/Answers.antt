@@ -42,15 +42,15 @@ module _ (l : goal.At-loop-rest) where
   lowering = lowering-on block s.requires l.loop-rest.invariant
 
 pub excess-requires : goal.excess-requires
-excess-requires c = lowering c.before.before
+excess-requires c = lowering c
 
 pub settled-requires : goal.settled-requires
-settled-requires c = (lowering c.before.before.before.before.before).small.accepted
+settled-requires c = (lowering c.before.before.before).small.accepted
 
 -- the rest, settled
 module _ (c : After-settled) where
   abbrev l : goal.At-loop-rest
-  l = c.before.before.before.before.before.before
+  l = c.before.before.before.before
 
   abbrev v : List ℤ
   v = c.settled.new.table
@@ -66,27 +66,24 @@ halve-requires c = let a = c.before.before.before.before in lowering-on (block (
 
 pub loop-rest-smaller : goal.loop-rest-smaller
 loop-rest-smaller c =
-    let p = c.before.before in
-    let a = p.before.before.before.before.before in
-    let d = a.before.before in
+    let a = c.before.before.before.before.before.before.before in
     let no_more = settled-excess (block (l a)) (lowering (l a)) (found a) in
-    ⊎_elim (λ e. omega (arith, e, d.before.excess.ensures, d.loop-rest-test.true)) (λ e. omega (arith, e, no_more)) p.halve.ensures.less
+    ⊎_elim (λ e. omega (arith, e, a.excess.ensures, a.loop-rest-test.true)) (λ e. omega (arith, e, no_more)) c.halve.ensures.less
 
 pub loop-rest-preserved : goal.loop-rest-preserved
 loop-rest-preserved c =
-    let p = c.before.before in
-    let a = p.before.before.before.before.before in
-    lowered-then (block (l a)) (settled a) p.halve.ensures.lowered
+    let a = c.before.before.before.before.before.before.before in
+    lowered-then (block (l a)) (settled a) c.halve.ensures.lowered
 
 pub least_of-requires : goal.least_of-requires
 least_of-requires c =
-    let h = c.before.before.before.before.before.before in
+    let h = c.before.before.before in
     on-best (block h) (lowering h)
 
 -- the best has the least value
 module _ (c : goal.After-least_of) where
   abbrev h : goal.At-loop-rest
-  h = c.before.before.before.before.before.before.before
+  h = c.before.before.before.before
 
   abbrev r : Split
   r = c.least_of.result
@@ -100,9 +97,8 @@ module _ (c : goal.After-least_of) where
   fixed : Lowered (block h) (suc (m h)) (s h).args.rest.now (s h).args.best.now (split r.row r.column r.at) h.loop-rest.best
   unfolding number_at
   fixed =
-      let e = c.before.before.before in
       let least = number_at (block h) h.loop-rest.best (m h) in
-      let none_left : excess (block h) (m h) h.loop-rest.rest h.loop-rest.best ≤ 0 = omega (arith, e.before.excess.ensures, e.loop-rest-test.false) in
+      let none_left : excess (block h) (m h) h.loop-rest.rest h.loop-rest.best ≤ 0 = omega (arith, c.excess.ensures, c.loop-rest-test.false) in
       subst (λ (w : List ℤ). Lowered (block h) (suc (m h)) (s h).args.rest.now (s h).args.best.now w h.loop-rest.best)
       (sym (ap (split r.row r.column) is.least ∙ ap₂ (λ (i k : ℕ). split i k least) is.row is.column))
       (lowered-next (block h) h.loop-rest.invariant (lowering h).below (excess-none (block h) (lowering h) none_left))
@@ -117,8 +113,8 @@ keep_upto-requires c =
 
 -- what is written
 written : (c : goal.After-rest-2-1) → let a = c.before.before in
-    c.before.keep_upto.new.table ≡ upto_value (block (h a)) (h a).loop-rest.rest (r a).row (r a).column (r a).at
-written c = c.before.keep_upto.ensures
+    c.keep_upto.new.table ≡ upto_value (block (h a)) (h a).loop-rest.rest (r a).row (r a).column (r a).at
+written c = c.keep_upto.ensures
 
 pub shape_of-rest : goal.shape_of-rest
 shape_of-rest c = ap length (written c) ∙ (fixed c.before.before).part.inside.as_long

@@ -15,15 +15,15 @@ use Rattle.layout.proofs.Lowers.{lowered-start, lowered-then}
 use Rattle.layout.proofs.lower.lower_all.Goals as goal
 
 pub rows_of-requires : goal.rows_of-requires
-rows_of-requires c = let s = c.before in accepted-head s.args.block.now s.args.rest.now s.requires.0.accepted
+rows_of-requires c = accepted-head c.args.block.now c.args.rest.now c.requires.0.accepted
 
 pub axes_of-requires : goal.axes_of-requires
-axes_of-requires c = let s = c.before.before in accepted-head s.args.block.now s.args.rest.now s.requires.0.accepted
+axes_of-requires c = accepted-head c.args.block.now c.args.rest.now c.requires.0.accepted
 
 -- how many numbers there are
 module _ (c : goal.After-axes_of) where
   abbrev s : goal.Start
-  s = c.before.before.before
+  s = c.before.before
 
   abbrev block : List ℤ
   block = s.args.block.now
@@ -34,14 +34,14 @@ module _ (c : goal.After-axes_of) where
   few-axes : c.axes_of.result ≤ 4
   few-axes = let h = (accepted-head block t s.requires.0.accepted).few_axes in omega (arith, h, c.axes_of.ensures)
 
-  few-rows : c.before.rows_of.result ≤ 8
-  few-rows = omega (arith, s.requires.0.few, c.before.rows_of.ensures)
+  few-rows : c.rows_of.result ≤ 8
+  few-rows = omega (arith, s.requires.0.few, c.rows_of.ensures)
 
-  count : c.before.rows_of.result * (c.axes_of.result + 1) ≡ numbers block t
+  count : c.rows_of.result * (c.axes_of.result + 1) ≡ numbers block t
   unfolding numbers per_row
-  count = ap₂ ◌*◌ c.before.rows_of.ensures (add-one c.axes_of.result ∙ ap suc c.axes_of.ensures)
+  count = ap₂ ◌*◌ c.rows_of.ensures (add-one c.axes_of.result ∙ ap suc c.axes_of.ensures)
 
-  few : c.before.rows_of.result * (c.axes_of.result + 1) ≤ 40
+  few : c.rows_of.result * (c.axes_of.result + 1) ≤ 40
   few = let a = few-axes in let k : c.axes_of.result + 1 ≤ 5 = omega arith in mul-le-mul few-rows k
 
 pub overflow_add-count : goal.overflow_add-count
@@ -57,46 +57,39 @@ loop-m-init c =
 
 pub lower-requires : goal.lower-requires
 lower-requires c =
-    let p = c.before.before.before in
-    let l = p.before in
-    let a = l.before in
-    let x = l.loop-m.invariant.0 in
+    let a = c.before.before.before.before.before in
+    let x = c.loop-m.invariant.0 in
     record {
       small = small-part (block a) (s a).requires.0 x.part;
-      below = rw (numbers-same (block a) l.loop-m.rest (t a) x.part.inside.as_long, sym (count a)) p.loop-m-test.true;
+      below = rw (numbers-same (block a) c.loop-m.rest (t a) x.part.inside.as_long, sym (count a)) c.loop-m-test.true;
       placed = x.placed;
       agree = x.agree;
     }
 
 pub overflow_add-m : goal.overflow_add-m
 overflow_add-m c =
-    let p = c.before.before.before.before.before.before in
-    omega (arith, p.loop-m-test.true, few p.before.before)
+    omega (arith, c.loop-m-test.true, few c.before.before.before.before.before.before.before.before)
 
 pub loop-m-smaller : goal.loop-m-smaller
-loop-m-smaller c = omega (arith, c.before.before.before.before.before.before.loop-m-test.true)
+loop-m-smaller c = omega (arith, c.loop-m-test.true)
 
 pub loop-m-preserved : goal.loop-m-preserved
 loop-m-preserved c =
-    let w = c.before.before in
-    let p = w.before.before.before.before in
-    let l = p.before in (
-      rw (add-one l.loop-m.m) (lowered-then (block l.before) l.loop-m.invariant.0 w.lower.ensures),
-      omega (arith, p.loop-m-test.true),
+    (
+      rw (add-one c.loop-m.m) (lowered-then (block c.before.before.before.before.before.before.before.before) c.loop-m.invariant.0 c.lower.ensures),
+      omega (arith, c.loop-m-test.true),
     )
 
 pub shape_of-rest : goal.shape_of-rest
-shape_of-rest c = c.before.loop-m.invariant.0.part.inside.as_long
+shape_of-rest c = c.loop-m.invariant.0.part.inside.as_long
 
 pub shape_of-best : goal.shape_of-best
 shape_of-best c =
-    let l = c.before in
-    let x = l.loop-m.invariant.0 in
-    x.placed.inside.as_long ∙ x.part.inside.as_long ∙ sym (s l.before).requires.1.inside.as_long
+    let x = c.loop-m.invariant.0 in
+    x.placed.inside.as_long ∙ x.part.inside.as_long ∙ sym (s c.before.before).requires.1.inside.as_long
 
 pub returns : goal.returns
 returns c =
-    let l = c.before in
-    let a = l.before in
-    let e : l.loop-m.m ≡ numbers (block a) (t a) = omega (arith, l.loop-m.invariant.1, c.loop-m-test.false, count a) in
-    subst (λ (m : ℕ). Lowered (block a) m (t a) (s a).args.best.now l.loop-m.rest l.loop-m.best) e l.loop-m.invariant.0
+    let a = c.before.before in
+    let e : c.loop-m.m ≡ numbers (block a) (t a) = omega (arith, c.loop-m.invariant.1, c.loop-m-test.false, count a) in
+    subst (λ (m : ℕ). Lowered (block a) m (t a) (s a).args.best.now c.loop-m.rest c.loop-m.best) e c.loop-m.invariant.0

@@ -51,18 +51,18 @@ module _ (s : goal.Start) where
       record { head = accepted-head block rest a; table = accepted-table block rest a; has = s.requires.1.has }
 
 pub slice_bounds-part-end : goal.slice_bounds-part-end
-slice_bounds-part-end c = short c.before
+slice_bounds-part-end c = short c
 
 pub slice_bounds-copy_upto-end : goal.slice_bounds-copy_upto-end
-slice_bounds-copy_upto-end c = sym (length-take-le _ (replicate layout_table_most (pos 0)) (short c.before.before))
+slice_bounds-copy_upto-end c = sym (length-take-le _ (replicate layout_table_most (pos 0)) (short c.before))
 
 pub copy_upto-requires : goal.copy_upto-requires
-copy_upto-requires c = let s = c.before.before in (on s, length-take-le _ (replicate layout_table_most (pos 0)) (short s))
+copy_upto-requires c = let s = c.before in (on s, length-take-le _ (replicate layout_table_most (pos 0)) (short s))
 
 -- the part, at the start of the array
 module _ (c : After-copy_upto) where
   abbrev s : goal.Start
-  s = c.before.before.before
+  s = c.before.before
 
   abbrev part : List ℤ
   part = c.copy_upto.new.table.1.0
@@ -140,7 +140,7 @@ pub returns-then-place : goal.returns-then-place
 returns-then-place c =
     let e = c.before.before.before.before in
     let q = a (p e) in
-    let written = c.before.copy.ensures ∙ outcome-front e in
+    let written = c.copy.ensures ∙ outcome-front e in
     found
     (subst (Places (block (s q)) (upto_value (block (s q)) (rest (s q)) (at (s q)).row (at (s q)).column (at (s q)).at)) (sym written)
     (subst (λ (w : List ℤ). Places (block (s q)) w (outcome (p e))) (is-upto q) (placed e))) refl
@@ -152,6 +152,5 @@ keep_past-requires c =
 
 pub returns : goal.returns
 returns c =
-    let e = c.before.before.before in
-    let q = a e.before.before in
-    missing (subst (NoPlacement (block (s q))) (is-upto q) ((in-part e.before.before).no e.if-place.false)) c.before.keep_past.ensures refl
+    let q = a c.before.before.before.before.before in
+    missing (subst (NoPlacement (block (s q))) (is-upto q) ((in-part c.before.before.before.before.before).no c.if-place.false)) c.keep_past.ensures refl

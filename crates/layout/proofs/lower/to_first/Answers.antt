@@ -67,10 +67,9 @@ lower_all-requires c =
 
 pub returns : goal.returns
 returns c =
-    let l = c.before.before in
-    let a = l.before.before.before.before.before in
+    let a = c.before.before.before.before.before.before.before in
     let x = s a in
     let b = x.args.block.now in
-    let w = subst (λ (v : List ℤ). Lowered b (numbers b v) v x.args.best.now l.lower_all.new.rest l.lower_all.new.rest.1.0)
-    (in-front a) l.lower_all.ensures in
+    let w = subst (λ (v : List ℤ). Lowered b (numbers b v) v x.args.best.now c.lower_all.new.rest c.lower_all.new.rest.1.0)
+    (in-front a) c.lower_all.ensures in
     lowered-last b w refl

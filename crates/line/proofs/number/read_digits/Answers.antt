@@ -16,16 +16,15 @@ use Rattle.line.proofs.Numbers.{word_fits, word-is}
 use Rattle.line.proofs.number.read_digits.Goals as goal
 
 pub loop-i-init : goal.loop-i-init
-loop-i-init c = (refl, room-first _ _ c.before.requires.0 (omega arith), omega arith)
+loop-i-init c = (refl, room-first _ _ c.requires.0 (omega arith), omega arith)
 
 pub returns-then-not-is_between : goal.returns-then-not-is_between
 unfolding signed
 returns-then-not-is_between c =
-    let loop-test = c.before.before.before in
-    let loop = loop-test.before in
+    let loop = c.before in
     let loop = loop in
     let bad =
-    digits-bad _ loop.loop-i.i loop.loop-i.n loop-test.loop-i-test.true (sym c.before.is_between.ensures ∙ not-true c.if-not-is_between.true-raw) in
+    digits-bad _ loop.loop-i.i loop.loop-i.n c.loop-i-test.true (sym c.is_between.ensures ∙ not-true c.if-not-is_between.true-raw) in
     ap (λ (o : Option ℕ). number_of (signed pos o)) (sym bad ∙ loop.loop-i.invariant.0)
 
 -- the byte is a digit, and the number so far is small
@@ -36,11 +35,11 @@ record Digit (b n : ℕ) : Type 0 where
   small : n < 10000000000
 
 digit : (c : goal.Else-not-is_between)
-    → let loop = c.before.before.before.before in Digit (get_or loop.before.before.args.f.now loop.loop-i.i 0) loop.loop-i.n
+    → let loop = c.before.before.before.before in Digit (get_or loop.args.f.now loop.loop-i.i 0) loop.loop-i.n
 digit c =
     let loop = c.before.before.before.before in
     let loop = loop in
-    let test = sym c.before.is_between.ensures ∙ not-false c.if-not-is_between.false-raw in
+    let test = sym c.is_between.ensures ∙ not-false c.if-not-is_between.false-raw in
     record { test = test; low = (between-true test).0; high = (between-true test).1; small = room_small _ _ loop.loop-i.invariant.1 }
 
 pub overflow_mul-n : goal.overflow_mul-n
@@ -63,21 +62,19 @@ loop-i-smaller c = omega arith
 
 pub loop-i-preserved : goal.loop-i-preserved
 loop-i-preserved c =
-    let loop-test = c.before.before.before in
-    let loop = loop-test.before in
+    let loop = c.before in
     let loop = loop in
-    let f = loop.before.before.args.f.now in
+    let f = loop.args.f.now in
     let d = digit c in
-    let more = digits_more f loop.loop-i.i loop.loop-i.n loop-test.loop-i-test.true d.test in
+    let more = digits_more f loop.loop-i.i loop.loop-i.n c.loop-i-test.true d.test in
     let q : length f - loop.loop-i.i ≡ suc (length f - (loop.loop-i.i + 1)) = omega arith in
     (sym more ∙ loop.loop-i.invariant.0, room-more _ _ (get_or f loop.loop-i.i 0 - 48) (omega arith) (rw q at loop.loop-i.invariant.1), omega arith)
 
 pub overflow_cast-result : goal.overflow_cast-result
-overflow_cast-result c = word_fits (room_small _ _ c.before.loop-i.invariant.1)
+overflow_cast-result c = word_fits (room_small _ _ c.loop-i.invariant.1)
 
 pub returns : goal.returns
 unfolding signed
 returns c =
-    let loop = c.before in
-    let past = digits-end loop.before.before.args.f.now loop.loop-i.i loop.loop-i.n c.loop-i-test.false in
-    rw (word-is (room_small _ _ loop.loop-i.invariant.1), ← loop.loop-i.invariant.0, past)
+    let past = digits-end c.args.f.now c.loop-i.i c.loop-i.n c.loop-i-test.false in
+    rw (word-is (room_small _ _ c.loop-i.invariant.1), ← c.loop-i.invariant.0, past)

@@ -26,22 +26,20 @@ pub returns-then-f-eq0 : goal.returns-then-f-eq0
 returns-then-f-eq0 c = ap number_of (sym (number-none _ c.if-f-eq0.true))
 
 pub returns-then-f-eq1 : goal.returns-then-f-eq1
-returns-then-f-eq1 c = ap number_of (sym (number-zero _ c.if-f-eq1.true c.before.if-b-eq48.true))
+returns-then-f-eq1 c = ap number_of (sym (number-zero _ c.if-f-eq1.true c.if-b-eq48.true))
 
 pub returns-then-b-eq48 : goal.returns-then-b-eq48
 returns-then-b-eq48 c =
-    let if1 = c.before.before.before in
-    ap number_of (sym (number-zeros _ if1.if-f-eq0.false c.if-f-eq1.false c.before.if-b-eq48.true))
+    ap number_of (sym (number-zeros _ c.if-f-eq0.false c.if-f-eq1.false c.if-b-eq48.true))
 
 -- what stands after the minus
 answer : (c : After-read_positive)
-    → c.read_positive.result ≡ number_of (signed pos (positive (drop 1 c.before.before.before.before.before.before.before.args.f.now)))
+    → c.read_positive.result ≡ number_of (signed pos (positive (drop 1 c.args.f.now)))
 answer c =
-    let start = c.before.before.before.before.before.before.before in
-    c.read_positive.ensures ∙ rw (part-all start.args.f.now 1 refl)
+    c.read_positive.ensures ∙ rw (part-all c.args.f.now 1 refl)
 
 found : (c : In-Found-2)
-    → Positive (positive (drop 1 c.before.before.before.before.before.before.before.before.before.args.f.now)) c.v-1.given.0.0
+    → Positive (positive (drop 1 c.args.f.now)) c.v-1.given.0.0
 found c = signed-some _ (number-found _ (sym (answer c.before.before) ∙ c.v-1.given.1))
 
 pub overflow_sub-result : goal.overflow_sub-result
@@ -53,26 +51,19 @@ overflow_sub-result c =
 pub returns-in-Found : goal.returns-in-Found
 unfolding signed
 returns-in-Found c =
-    let if4 = c.before.before.before.before.before in
-    let if1 = if4.before.before.before in
     let p = found c.before in
     let h = positive-small _ p.n p.is in
-    let is = number-minus _ if1.if-f-eq0.false if4.if-b-eq45.true ∙ ap (signed minus) p.is in
+    let is = number-minus _ c.if-f-eq0.false c.if-b-eq45.true ∙ ap (signed minus) p.is in
     rw (minus_is p.word h, to_z-of_z (minus-fits h)) (ap number_of (sym is))
 
 pub returns-in-Missing : goal.returns-in-Missing
 unfolding signed
 returns-in-Missing c =
     let read-positive = c.before.before in
-    let if4 = read-positive.before.before in
-    let if1 = if4.before.before.before in
-    let start = if1.before.before in
     let none-there =
-    signed-none (positive (drop 1 start.args.f.now)) (number-missing _ (sym (answer read-positive) ∙ c.enum_told-1.given.1)) in
-    ap number_of (sym (number-minus _ if1.if-f-eq0.false if4.if-b-eq45.true ∙ ap (signed minus) none-there))
+    signed-none (positive (drop 1 read-positive.args.f.now)) (number-missing _ (sym (answer read-positive) ∙ c.enum_told-1.given.1)) in
+    ap number_of (sym (number-minus _ read-positive.if-f-eq0.false read-positive.if-b-eq45.true ∙ ap (signed minus) none-there))
 
 pub returns-else-b-eq45 : goal.returns-else-b-eq45
 returns-else-b-eq45 c =
-    let if2 = c.before.before in
-    let if1 = if2.before.before in
-    c.read_positive-else-b-eq45.ensures ∙ ap number_of (sym (number-plain _ if1.if-f-eq0.false if2.if-b-eq48.false c.before.if-b-eq45.false))
+    c.read_positive-else-b-eq45.ensures ∙ ap number_of (sym (number-plain _ c.if-f-eq0.false c.if-b-eq48.false c.if-b-eq45.false))

@@ -24,8 +24,8 @@ returns-then-f-eq0 c = rw (positive-none _ c.if-f-eq0.true)
 pub returns-then-not-is_between : goal.returns-then-not-is_between
 unfolding signed
 returns-then-not-is_between c =
-    let h : 0 < length c.before.before.before.before.before.args.f.now = omega arith in
-    rw (positive-bad _ h (sym c.before.is_between.ensures ∙ not-true c.if-not-is_between.true-raw))
+    let h : 0 < length c.args.f.now = omega arith in
+    rw (positive-bad _ h (sym c.is_between.ensures ∙ not-true c.if-not-is_between.true-raw))
 
 pub returns-then-f-gt10 : goal.returns-then-f-gt10
 unfolding signed
@@ -37,9 +37,9 @@ record Digit (b : ℕ) : Type 0 where
   low : 49 ≤ b
   high : b ≤ 57
 
-digit : (c : Else-f-gt10) → Digit (get_or c.before.before.before.before.before.before.args.f.now 0 0)
+digit : (c : Else-f-gt10) → Digit (get_or c.args.f.now 0 0)
 digit c =
-    let test = sym c.before.before.is_between.ensures ∙ not-false c.before.if-not-is_between.false-raw in
+    let test = sym c.is_between.ensures ∙ not-false c.if-not-is_between.false-raw in
     record { test = test; low = (between-true test).0; high = (between-true test).1 }
 
 pub overflow_sub-b : goal.overflow_sub-b
@@ -50,14 +50,13 @@ overflow_cast-b c = let d = digit c.before in omega arith
 
 pub read_digits-requires : goal.read_digits-requires
 read_digits-requires c =
-    let start = c.before.before.before.before.before.before.before in
     let d = digit c.before in
-    (omega arith, rw (part-all start.args.f.now 1 refl) (rw length-drop (omega arith)))
+    (omega arith, rw (part-all c.args.f.now 1 refl) (rw length-drop (omega arith)))
 
 pub returns : goal.returns
 unfolding signed
 returns c =
-    let f = c.before.before.before.before.before.before.before.before.args.f.now in
+    let f = c.args.f.now in
     let h : 0 < length f = omega arith in
-    let good = positive-good f h (digit c.before.before).test c.before.before.if-f-gt10.false in
+    let good = positive-good f h (digit c.before.before).test c.if-f-gt10.false in
     c.read_digits.ensures ∙ rw (part-all f 1 refl, good)

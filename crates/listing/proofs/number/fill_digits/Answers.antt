@@ -26,28 +26,28 @@ pub bounds-buf-i : goal.bounds-buf-i
 bounds-buf-i c = omega arith
 
 pub shape_of-buf-then-m-lt10 : goal.shape_of-buf-then-m-lt10
-shape_of-buf-then-m-lt10 c = simp length-set c.before.before.loop-i.invariant.2
+shape_of-buf-then-m-lt10 c = simp length-set c.loop-i.invariant.2
 
 pub returns-then-m-lt10 : goal.returns-then-m-lt10
 returns-then-m-lt10 c =
-    let loop = c.before.before.loop-i in
-    (omega arith, digit-last loop.buf loop.i loop.m c.before.loop-i-test.true loop.invariant.1 c.if-m-lt10.true ∙ loop.invariant.0)
+    let loop = c.loop-i in
+    (omega arith, digit-last loop.buf loop.i loop.m c.loop-i-test.true loop.invariant.1 c.if-m-lt10.true ∙ loop.invariant.0)
 
 pub loop-i-smaller : goal.loop-i-smaller
 loop-i-smaller c = omega arith
 
 pub loop-i-preserved : goal.loop-i-preserved
 loop-i-preserved c =
-    let loop = c.before.before.loop-i in
-    let more = digit-more loop.buf loop.i loop.m c.before.loop-i-test.true loop.invariant.1 c.if-m-lt10.false in
+    let loop = c.loop-i in
+    let more = digit-more loop.buf loop.i loop.m c.loop-i-test.true loop.invariant.1 c.if-m-lt10.false in
     (more ∙ loop.invariant.0, simp length-set (omega arith), simp length-set loop.invariant.2)
 
 pub shape_of-buf : goal.shape_of-buf
-shape_of-buf c = c.before.loop-i.invariant.2
+shape_of-buf c = c.loop-i.invariant.2
 
 pub returns : goal.returns
 returns c =
-    let loop = c.before.loop-i in
+    let loop = c.loop-i in
     let q : 0 ≡ loop.i = omega arith in
     let bytes = drop loop.i loop.buf in
     (omega arith, sym (decimal-none loop.m bytes) ∙ ap (λ (f : ℕ). decimal f loop.m bytes) q ∙ loop.invariant.0)

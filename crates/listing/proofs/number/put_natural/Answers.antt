@@ -9,6 +9,6 @@ use Rattle.listing.proofs.number.put_natural.Goals as goal
 
 pub returns : goal.returns
 returns c =
-    let digits = c.before.before.before.before.before.before.before.fill_digits-i in
+    let digits = c.fill_digits-i in
     let long : length digits.new.0 ≡ 20 = digits.auto.0 in
-    put_as (part-all digits.new.0 digits.result long ∙ digits.ensures.1 ∙ sym (shown-natural _)) c.before.before.put_bytes.ensures
+    put_as (part-all digits.new.0 digits.result long ∙ digits.ensures.1 ∙ sym (shown-natural _)) c.put_bytes.ensures

@@ -35,17 +35,14 @@ has_member-requires c = c.requires.0.below
 
 pub returns-then-not-has_member : goal.returns-then-not-has_member
 returns-then-not-has_member c =
-    let m = c.before in
-    let s = m.before in
+    let s = c.before.before in
     kept-skip (block s) (table s) (row s) s.args.s s.args.shapes s.args.ends.now (so_far s)
-    (sym (shape_is s m.has_member.ensures) ∙ not-true c.if-not-has_member.true-raw)
+    (sym (shape_is s c.has_member.ensures) ∙ not-true c.if-not-has_member.true-raw)
 
 pub with_shape-requires : goal.with_shape-requires
 with_shape-requires c =
-    let e = c.before.before.before in
-    let m = e.before in
-    let s = m.before in
-    (s.requires.0, sym (shape_is s m.has_member.ensures) ∙ not-false e.if-not-has_member.false-raw)
+    let s = c.before.before.before.before.before in
+    (s.requires.0, sym (shape_is s c.has_member.ensures) ∙ not-false c.if-not-has_member.false-raw)
 
 pub with_member-requires : goal.with_member-requires
 with_member-requires c =
@@ -54,16 +51,13 @@ with_member-requires c =
 
 pub returns-then-with_shape : goal.returns-then-with_shape
 returns-then-with_shape c =
-    let t = c.before in
-    let w = t.before.before.before in
-    let s = w.before.before.before.before.before.before in
+    let s = c.before.before.before.before.before.before.before.before.before.before in
     rw c.with_member.ensures (kept_next (block s) (table s) (row s) s.args.s s.args.shapes s.args.ends.now (so_far s) true
-    (sym w.with_shape.ensures.0 ∙ t.if-with_shape.true) w.with_shape.ensures.1)
+    (sym c.with_shape.ensures.0 ∙ c.if-with_shape.true) c.with_shape.ensures.1)
 
 pub returns : goal.returns
 returns c =
-    let w = c.before.before.before in
-    let s = w.before.before.before.before.before.before in
+    let s = c.before.before.before.before.before.before.before.before.before in
     let q : s.args.shapes + 0 ≡ s.args.shapes = omega arith in
     rw q at (kept_next (block s) (table s) (row s) s.args.s s.args.shapes s.args.ends.now (so_far s) false
-    (sym w.with_shape.ensures.0 ∙ c.if-with_shape.false) w.with_shape.ensures.1)
+    (sym c.with_shape.ensures.0 ∙ c.if-with_shape.false) c.with_shape.ensures.1)

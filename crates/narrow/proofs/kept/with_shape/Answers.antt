@@ -78,13 +78,13 @@ module _ (c : After-holds) where
   s = c.before.before.before.before
 
   abbrev cut : Area
-  cut = c.before.before.cut_box-cut.result
+  cut = c.cut_box-cut.result
 
   box : CutBox (block s) (table s) (row s) (next s) cut
-  box = rw add-one at c.before.before.cut_box-cut.ensures
+  box = rw add-one at c.cut_box-cut.ensures
 
   tested : c.holds.result ≡ in_area (axes (block s)) cut cut.low
-  tested = c.holds.ensures ∙ ap (λ (k : ℕ). in_area k cut cut.low) c.before.before.before.axes_of-k.ensures
+  tested = c.holds.ensures ∙ ap (λ (k : ℕ). in_area k cut cut.low) c.axes_of-k.ensures
 
   -- the free points of the cut box are the allowed ones
   free-is : (p : List ℤ) → free_in (block s) (table s) (row s) (next s) cut p ≡ allowed (block s) (table s) (row s) (next s) p
@@ -111,12 +111,12 @@ module _ (c : After-gather-nearby) where
   listed-subject = at-list (Subject (block (s h)) (table (s h)) (s h).args.outline.now) (subject (s h))
 
   filled : in_area (axes (block (s h))) (cut h) (cut h).low ≡ true
-  filled = sym (tested h) ∙ not-false c.before.before.before.if-not-holds.false-raw
+  filled = sym (tested h) ∙ not-false c.if-not-holds.false-raw
 
 -- where the list has nothing, the points of the cut box are allowed
 module _ (c : After-lists_nothing) where
   abbrev listed_at : After-gather-nearby
-  listed_at = c.before.before.before
+  listed_at = c.before.before
 
   free : c.lists_nothing.result ≡ true → (p : List ℤ) → let b = h listed_at in
       in_area (axes (block (s b))) (cut b) p ≡ true → allowed (block (s b)) (table (s b)) (row (s b)) (next (s b)) p ≡ true
@@ -132,7 +132,7 @@ module _ (c : After-lists_nothing) where
 -- the search
 module _ (c : After-search-x) where
   abbrev g : After-gather-nearby
-  g = listed_at c.before.before.before.before
+  g = listed_at c.before.before.before
 
   abbrev b : After-holds
   b = h g
@@ -156,34 +156,31 @@ pub gather-nearby-requires : goal.gather-nearby-requires
 gather-nearby-requires c = rw add-one (subject (s c.before.before.before))
 
 pub lists_nothing-requires : goal.lists_nothing-requires
-lists_nothing-requires c = c.before.before.gather-nearby.ensures.0.areas.counted
+lists_nothing-requires c = c.gather-nearby.ensures.0.areas.counted
 
 pub take_in-requires : goal.take_in-requires
 take_in-requires c = (s (h (listed_at c.before.before.before))).requires.0.long
 
 pub take_in-requires-then-lists_nothing : goal.take_in-requires-then-lists_nothing
 take_in-requires-then-lists_nothing c =
-    let e = c.before in
-    e.ends-1.given ∙ (s (h (listed_at e.before.before.before.before.before))).requires.0.long
+    c.ends-1.given ∙ (s (h (listed_at c.before.before.before.before.before.before))).requires.0.long
 
 pub returns-then-lists_nothing : goal.returns-then-lists_nothing
 returns-then-lists_nothing c =
-    let first = c.before.before.before.before in
-    let t = first.before.before.before in
-    let l = listed_at t.before in
+    let l = listed_at c.before.before.before.before.before.before.before.before in
     let a = s (h l) in
     let on = a.requires.0.on in
-    let low = free t.before t.if-lists_nothing.true (cut (h l)).low (filled l) in
-    let high = free t.before t.if-lists_nothing.true (cut (h l)).high (high-in (axes (block a)) (cut (h l)) (filled l)) in (
+    let low = free c.before.before.before.before.before.before.before.before c.if-lists_nothing.true (cut (h l)).low (filled l) in
+    let high = free c.before.before.before.before.before.before.before.before c.if-lists_nothing.true (cut (h l)).high (high-in (axes (block a)) (cut (h l)) (filled l)) in (
       sym (kept-shape (block a) (table a) (row a) (next a) (cut (h l)).low a.requires.1 low),
       λ flip d k. inl (corners-reach (block a) (table a) on.table (row a) on.row.from on.row.upto on.accepted.head.few_axes
-          a.args.s a.requires.1 (cut (h l)) (box (h l)) low high first.take_in.ensures c.before.take_in-then-lists_nothing.ensures
+          a.args.s a.requires.1 (cut (h l)) (box (h l)) low high c.take_in.ensures c.take_in-then-lists_nothing.ensures
           a.requires.0.ends_of flip d k),
     )
 
 pub search-x-requires : goal.search-x-requires
 search-x-requires c =
-    let g = listed_at c.before.before.before in
+    let g = listed_at c.before.before in
     let b = h g in
     let a = s b in
     record {
@@ -206,15 +203,12 @@ take_in-requires-2 c = (s (b c.before.before.before)).requires.0.long
 
 pub widen-requires : goal.widen-requires
 widen-requires c =
-    let n = c.before.before.before in
-    let t = n.before in
-    let f = t.before.before.before in
-    let r = f.before in
+    let r = c.before.before.before.before.before.before.before in
     let l = g r in
     let a = s (b r) in
     let on = a.requires.0.on in
     let st : Stands (block a) (table a) (row a) r.search-x.result.point =
-    record { shape = next a; held = a.requires.1; stands = found r (not-false f.if-not-found.false-raw) } in
+    record { shape = next a; held = a.requires.1; stands = found r (not-false c.if-not-found.false-raw) } in
     let q : next a - 1 ≡ a.args.s = omega arith in (
       record {
         subject = listed-subject l;
@@ -223,20 +217,18 @@ widen-requires c =
         held = at-list l (λ j u. has_shape (block a) (table a) j.number u ≡ true) a.requires.1;
         box = at-list l (λ j u. CutBox (block a) (table a) j.number u (cut (b r))) (box (b r));
         filled = filled l;
-        long = n.ends-2-1.given ∙ a.requires.0.long;
+        long = c.ends-2-1.given ∙ a.requires.0.long;
       },
-      at-list l (λ j u. Edges (block a) (table a) j.number (u - 1) t.take_in-2.new.ends)
+      at-list l (λ j u. Edges (block a) (table a) j.number (u - 1) c.take_in-2.new.ends)
           (rw q (taken-edges (block a) (table a) on.table (row a) on.row.from on.row.upto on.accepted.head.few_axes
-          t.take_in-2.ensures st a.args.s a.requires.0.ends_of)),
+          c.take_in-2.ensures st a.args.s a.requires.0.ends_of)),
     )
 
 pub returns : goal.returns
 returns c =
-    let w = c.before in
-    let f = w.before.before.before.before.before.before.before.before in
-    let r = f.before in
+    let r = c.before.before.before.before.before.before.before.before.before in
     let a = s (b r) in (
-      sym (kept-shape (block a) (table a) (row a) (next a) r.search-x.result.point a.requires.1 (found r (not-false f.if-not-found.false-raw))),
-      λ flip d l. inl (of-list (g r) (λ j u. Edges (block a) (table a) j.number u w.widen.new.table.1.1.1.1.0)
-          w.widen.ensures flip d l),
+      sym (kept-shape (block a) (table a) (row a) (next a) r.search-x.result.point a.requires.1 (found r (not-false c.if-not-found.false-raw))),
+      λ flip d l. inl (of-list (g r) (λ j u. Edges (block a) (table a) j.number u c.widen.new.table.1.1.1.1.0)
+          c.widen.ensures flip d l),
     )

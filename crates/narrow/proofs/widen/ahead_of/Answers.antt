@@ -12,33 +12,29 @@ use borrow.Author.Rules.{rules}
 use Rattle.narrow.proofs.widen.ahead_of.Goals as goal
 
 pub overflow_add-z : goal.overflow_add-z
-overflow_add-z c = sum_fits (bnd c.before.requires.1) (num 1) tt
+overflow_add-z c = sum_fits (bnd c.requires.1) (num 1) tt
 
 pub within-requires : goal.within-requires
 within-requires c =
-    let s = c.before in
-    record { below = s.requires.0; low_near = (sum_is (bnd s.requires.1 +ʷ num 1) tt refl).1; high_near = within-pos (omega arith) }
+    record { below = c.requires.0; low_near = (sum_is (bnd c.requires.1 +ʷ num 1) tt refl).1; high_near = within-pos (omega arith) }
 
 pub returns-then-flip : goal.returns-then-flip
 returns-then-flip c k h =
-    let s = c.before.before in
-    rw c.before.if-flip.true (cuts-same (λ p. ap (λ (y : ℤ). within y (pos reach) (word p s.args.d)) (exact (bnd s.requires.1 +ʷ num 1) tt))
+    rw c.if-flip.true (cuts-same (λ p. ap (λ (y : ℤ). within y (pos reach) (word p c.args.d)) (exact (bnd c.requires.1 +ʷ num 1) tt))
     (c.within.ensures k h))
 
 pub overflow_sub-z : goal.overflow_sub-z
-overflow_sub-z c = diff-fits (bnd c.before.requires.1) (num 1) tt
+overflow_sub-z c = diff-fits (bnd c.requires.1) (num 1) tt
 
 pub within-requires-2 : goal.within-requires-2
 within-requires-2 c =
-    let s = c.before in
     record {
-      below = s.requires.0;
+      below = c.requires.0;
       low_near = record { above = omega arith; below = omega arith };
-      high_near = (sum_is (bnd s.requires.1 -ʷ num 1) tt refl).1;
+      high_near = (sum_is (bnd c.requires.1 -ʷ num 1) tt refl).1;
     }
 
 pub returns : goal.returns
 returns c k h =
-    let s = c.before.before in
-    rw c.before.if-flip.false (cuts-same (λ p. ap (λ (y : ℤ). within (minus reach) y (word p s.args.d)) (exact (bnd s.requires.1 -ʷ num 1) tt))
+    rw c.if-flip.false (cuts-same (λ p. ap (λ (y : ℤ). within (minus reach) y (word p c.args.d)) (exact (bnd c.requires.1 -ʷ num 1) tt))
     (c.within-2.ensures k h))

@@ -11,14 +11,14 @@ use Rattle.narrow.proofs.widen.dim_of.Goals as goal
 
 pub returns-then-e-k : goal.returns-then-e-k
 returns-then-e-k c =
-    let a = c.before.args in
+    let a = c.args in
     let h = c.if-e-k.true in
     let low : leb a.k a.e ≡ false = fails (λ t. omega (arith, h, leb-true a.k a.e t)) in
     (h, ap (λ (b : Bool). end_number b a.k a.e) low)
 
 pub returns-else-e-k : goal.returns-else-e-k
 returns-else-e-k c =
-    let a = c.before.args in
+    let a = c.args in
     let h = c.if-e-k.false in
     let back : a.k + (a.e - a.k) ≡ a.e = omega (arith, h) in
-    (omega (arith, h, c.before.requires), ap (λ (b : Bool). end_number b a.k (a.e - a.k)) (le-leb a.k a.e h) ∙ back)
+    (omega (arith, h, c.requires), ap (λ (b : Bool). end_number b a.k (a.e - a.k)) (le-leb a.k a.e h) ∙ back)

@@ -17,16 +17,14 @@ abbrev After-end_of-end : Type 0
 After-end_of-end = lts.After-end_of tie.the-claims reads.Pre reads.Post
 
 -- the end as the code holds it
-end_is : (c : After-end_of-end) → let a = c.before.before.args in
+end_is : (c : After-end_of-end) → let a = c.args in
     to_z w64 (of_z w64 c.end_of_lem.result) ≡ end_at a.flip a.d a.area.now
 end_is c = bits_back c.end_of_lem.type_inv ∙ c.end_of_lem.ensures
 
 pub returns-then-flip : goal.returns-then-flip
 returns-then-flip c =
-    let s = c.before.before.before in
-    rw c.if-flip.true (ap₂ le_z (rw c.if-flip.true at (end_is c.before) ∙ sym (high-of s.args.area.now s.requires)) (to_z-of_z s.ranges.z))
+    rw c.if-flip.true (ap₂ le_z (rw c.if-flip.true at (end_is c.before) ∙ sym (high-of c.args.area.now c.requires)) (to_z-of_z c.ranges.z))
 
 pub returns-else-flip : goal.returns-else-flip
 returns-else-flip c =
-    let s = c.before.before.before in
-    rw c.if-flip.false (ap₂ le_z (to_z-of_z s.ranges.z) (rw c.if-flip.false at (end_is c.before) ∙ sym (low_of s.args.area.now s.requires)))
+    rw c.if-flip.false (ap₂ le_z (to_z-of_z c.ranges.z) (rw c.if-flip.false at (end_is c.before) ∙ sym (low_of c.args.area.now c.requires)))

@@ -30,7 +30,7 @@ After-dim_of-d = lts.After-dim_of tie.the-claims reads.Pre reads.Post goal.the-i
 
 -- no more axes than coordinates
 few : (c : After-axes_of-k) → c.axes_of-k.result ≤ coordinates
-few c = omega (arith, c.axes_of-k.ensures, c.before.requires.0.subject.accepted.head.few_axes)
+few c = omega (arith, c.axes_of-k.ensures, c.requires.0.subject.accepted.head.few_axes)
 
 -- at the loop's head
 module _ (l : goal.At-loop-e) where
@@ -83,7 +83,7 @@ axes_of-k-requires c = c.requires.0.subject.accepted.head
 
 pub loop-e-init : goal.loop-e-init
 loop-e-init c =
-    let p = c.before.before.before.before.requires in
+    let p = c.requires in
     (omega arith, p.0.long, p.1, λ flip d h l. absurd (omega (arith, l)), p.0.listed)
 
 pub overflow_add-k : goal.overflow_add-k
@@ -95,24 +95,23 @@ dim_of-d-requires c = c.loop-e-test.true
 pub widen_end-requires : goal.widen_end-requires
 widen_end-requires c =
     let m = c.before.before.before in
-    let w = (l m).loop-e in
+    let w = (l m).loop in
     (widening (s (l m)) (put (l m)).put_area.ensures.1 w.inv.4 w.inv.1, below-axes m, w.inv.2 _ (d m) (below-axes m))
 
 pub overflow_add-e : goal.overflow_add-e
 overflow_add-e c =
-    let t = c.before.before.before.before.before.before in
-    omega (arith, few (at-axes t.before), t.loop-e-test.true)
+    omega (arith, few (at-axes c.before.before.before.before.before.before.before), c.loop-e-test.true)
 
 pub loop-e-smaller : goal.loop-e-smaller
-loop-e-smaller c = omega (arith, c.before.before.before.before.before.before.loop-e-test.true)
+loop-e-smaller c = omega (arith, c.loop-e-test.true)
 
 pub loop-e-preserved : goal.loop-e-preserved
 loop-e-preserved c =
-    let after = c.before.widen_end.ensures in
+    let after = c.widen_end.ensures in
     let m = c.before.before.before.before.before in
     let w = (l m).loop-e.invariant in
     let a = (s (l m)).args in (
-      omega (arith, m.before.loop-e-test.true),
+      omega (arith, m.loop-e-test.true),
       c.ends-1.given ∙ w.1,
       λ f o h. after.0 (a.nearby.s - 1) f o h (w.2 f o h),
       edges_more a.block.now a.table.now a.nearby.i.number a.nearby.s (l m).loop-e.e _ (d m) (below-axes m) (is_number m)
@@ -121,7 +120,7 @@ loop-e-preserved c =
     )
 
 pub shape_of-ends : goal.shape_of-ends
-shape_of-ends c = c.before.loop-e.invariant.1 ∙ sym (s c.before).requires.0.long
+shape_of-ends c = c.loop-e.invariant.1 ∙ sym (s c.before).requires.0.long
 
 pub returns : goal.returns
 returns c flip o h =

@@ -40,14 +40,14 @@ module _ (s : Start) where
   begun = record { given = s.requires.0; below = s.requires.1; edge = s.requires.2 }
 
 -- the end as the code holds it
-end_is : (c : goal.After-end_of-z) → to_z w64 (of_z w64 c.end_of_lem.result) ≡ z c.before.before
+end_is : (c : goal.After-end_of-z) → to_z w64 (of_z w64 c.end_of_lem.result) ≡ z c.before
 end_is c = bits_back c.end_of_lem.type_inv ∙ c.end_of_lem.ensures
 
 -- the test whether the cut box has nothing ahead of the end
-tested : (c : After-none_past) → let s = c.before.before.before in
+tested : (c : After-none_past) → let s = c.before.before in
     c.none_past.result ≡ none-past s.args.flip (cut s) s.args.d (z s)
 tested c =
-    let s = c.before.before.before in
+    let s = c.before.before in
     subst (λ (y : ℤ). c.none_past.result ≡ none-past s.args.flip (cut s) s.args.d y) (end_is c.before) c.none_past.ensures
 
 -- the part of the cut box ahead of the end
@@ -56,7 +56,7 @@ module _ (c : After-ahead_of-ahead) where
   test = c.before.before.before.before
 
   abbrev start : Start
-  start = test.before.before.before
+  start = test.before.before
 
   cuts : let s = start in Cuts (axes s.args.block.now) (cut s) c.ahead_of_lem.result
       (λ p. within (past-from s.args.flip (z s)) (past_to s.args.flip (z s)) (word p s.args.d))
@@ -64,48 +64,46 @@ module _ (c : After-ahead_of-ahead) where
       let s = start in
       let k = axes s.args.block.now in
       subst (λ (a : Area). Cuts k a c.ahead_of_lem.result
-      (λ p. within (past-from s.args.flip (z s)) (past_to s.args.flip (z s)) (word p s.args.d))) c.before.area_at-area.ensures
-      (subst (λ (y : ℤ). Cuts k c.before.area_at-area.result c.ahead_of_lem.result
+      (λ p. within (past-from s.args.flip (z s)) (past_to s.args.flip (z s)) (word p s.args.d))) c.area_at-area.ensures
+      (subst (λ (y : ℤ). Cuts k c.area_at-area.result c.ahead_of_lem.result
       (λ p. within (past-from s.args.flip y) (past_to s.args.flip y) (word p s.args.d)))
       (end_is test.before) (c.ahead_of_lem.ensures k s.requires.1))
 
 pub none_past-requires : goal.none_past-requires
-none_past-requires c = few (begun c.before.before)
+none_past-requires c = few (begun c.before)
 
 pub returns-then-none_past : goal.returns-then-none_past
 returns-then-none_past c =
     let t = c.before in
-    let b = begun t.before.before.before in
+    let b = begun t.before.before in
     (λ n flip d h e. e, edge_stays b (sym (tested t) ∙ c.if-none_past.true), b.given.listed)
 
 pub ahead_of-ahead-requires : goal.ahead_of-ahead-requires
 ahead_of-ahead-requires c =
     let e = c.before.before.before.before in
-    let b = begun e.before.before in
+    let b = begun e.before in
     (few b, subst (Within beyond) (sym (end_is e)) (end-near b))
 
 pub search-x-requires : goal.search-x-requires
 search-x-requires c =
     let a = c.before in
-    ahead-searched (begun (start a)) (cuts a) (sym (tested (test a)) ∙ a.before.before.before.if-none_past.false)
+    ahead-searched (begun (start a)) (cuts a) (sym (tested (test a)) ∙ a.if-none_past.false)
 
 pub take_in-requires : goal.take_in-requires
 take_in-requires c = (start c.before.before.before.before.before).requires.0.long
 
 pub returns-then-found : goal.returns-then-found
 returns-then-found c =
-    let w = c.before in
-    let t = w.before.before.before in
-    let f = t.before.search-x in
-    let a = t.before.before.before in
+    let f = c.search-x in
+    let a = c.before.before.before.before.before.before.before in
     let b = begun (start a) in (
-      others-kept b (cuts a) f.ensures.0 t.if-found.true w.take_in.ensures,
-      edge-taken b (cuts a) f.ensures.0 t.if-found.true w.take_in.ensures,
+      others-kept b (cuts a) f.ensures.0 c.if-found.true c.take_in.ensures,
+      edge-taken b (cuts a) f.ensures.0 c.if-found.true c.take_in.ensures,
       f.ensures.1,
     )
 
 pub returns-else-found : goal.returns-else-found
 returns-else-found c =
-    let f = c.before.search-x in
+    let f = c.search-x in
     let a = c.before.before.before in
     (λ n flip d h e. e, edge-alone (begun (start a)) (cuts a) f.ensures.0 c.if-found.false, f.ensures.1)

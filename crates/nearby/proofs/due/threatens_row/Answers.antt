@@ -53,13 +53,11 @@ threatens_shape-requires c =
 
 pub returns-then-has_one_shape : goal.returns-then-has_one_shape
 returns-then-has_one_shape c e =
-    let x = c.before in
-    let o = x.before.before in
-    let w = o.before in
+    let w = c.before.before.before.before in
     let a = (start w).args in
     harmless w (λ s p h k.
     subst (λ (m : ℕ). ShapeHarmless a.block.now a.table.now a.r.number a.j.number w.lowest_shape-t.result a.i.number m)
-    (sym (same_shape _ _ _ _ _ (sym o.has_one_shape.ensures ∙ x.before.if-has_one_shape.true) x.lowest_shape-own.ensures.held h))
+    (sym (same_shape _ _ _ _ _ (sym c.has_one_shape.ensures ∙ c.if-has_one_shape.true) c.lowest_shape-own.ensures.held h))
     (c.threatens_shape.ensures e) p h k)
 
 pub shapes_of-set-requires : goal.shapes_of-set-requires
@@ -76,51 +74,43 @@ is_below-requires c = omega (arith, c.loop-s-test.true)
 
 pub returns-then-is_below : goal.returns-then-is_below
 returns-then-is_below c e =
-    let b = c.before in
-    let l = b.before.before in
-    let x = l.before in
-    let w = x.before.before.before in
-    let u = subst (λ (n : ℕ). n < 2 ^ l.loop-s.s) x.shapes_of-set.ensures (b.is_below.ensures.0 c.if-is_below.true) in
+    let w = c.before.before.before.before.before.before.before in
+    let u = subst (λ (n : ℕ). n < 2 ^ c.loop-s.s) c.shapes_of-set.ensures (c.is_below.ensures.0 c.if-is_below.true) in
     harmless w (λ s p h k. ⊎_elim
     (λ n. clash h (none-past _ _ _ (is_set (start w)) u n))
-    (λ n. l.loop-s.invariant.1 s (shape-from _ _ _ s h) n p h k) (below_or l.loop-s.s s))
+    (λ n. c.loop-s.invariant.1 s (shape-from _ _ _ s h) n p h k) (below_or c.loop-s.s s))
 
 pub overflow_add-s : goal.overflow_add-s
-overflow_add-s c = omega (arith, c.before.before.loop-s-test.true)
+overflow_add-s c = omega (arith, c.loop-s-test.true)
 
 pub threatens_shape-requires-in-loop-s : goal.threatens_shape-requires-in-loop-s
 threatens_shape-requires-in-loop-s c =
-    let b = c.before.before in
-    let w = b.before.before.before.before.before in
-    record { rows_of = (start w).requires; shape = boxed w; number = record { from = omega arith; upto = omega (arith, b.loop-s-test.true) } }
+    let w = c.before.before.before.before.before.before.before in
+    record { rows_of = (start w).requires; shape = boxed w; number = record { from = omega arith; upto = omega (arith, c.loop-s-test.true) } }
 
 pub returns-then-threatens_shape : goal.returns-then-threatens_shape
 returns-then-threatens_shape c e = clash refl e
 
 pub overflow_add-s-in-loop-s : goal.overflow_add-s-in-loop-s
-overflow_add-s-in-loop-s c = omega (arith, c.before.before.before.before.loop-s-test.true)
+overflow_add-s-in-loop-s c = omega (arith, c.loop-s-test.true)
 
 pub loop-s-smaller : goal.loop-s-smaller
-loop-s-smaller c = omega (arith, c.before.before.before.before.loop-s-test.true)
+loop-s-smaller c = omega (arith, c.loop-s-test.true)
 
 pub loop-s-preserved : goal.loop-s-preserved
 loop-s-preserved c =
-    let x = c.before in
-    let b = x.before.before.before in
-    let l = b.before in
-    let w = l.before.before.before.before in
+    let w = c.before.before.before.before.before.before.before.before.before in
     let a = (start w).args in (
-      omega (arith, b.loop-s-test.true),
+      omega (arith, c.loop-s-test.true),
       λ m f u. ⊎_elim
           (λ q. subst (λ (m : ℕ). ShapeHarmless a.block.now a.table.now a.r.number a.j.number
-          w.lowest_shape-t.result a.i.number m) (sym q) (x.threatens_shape-in-loop-s.ensures c.if-threatens_shape.false))
-          (λ k. l.loop-s.invariant.1 m f (le_of_suc-le-suc (subst (λ (n : ℕ). m < n) (add-one l.loop-s.s) k))) (eq-or-lt_of_le u),
+          w.lowest_shape-t.result a.i.number m) (sym q) (c.threatens_shape-in-loop-s.ensures c.if-threatens_shape.false))
+          (λ k. c.loop-s.invariant.1 m f (le_of_suc-le-suc (subst (λ (n : ℕ). m < n) (add-one c.loop-s.s) k))) (eq-or-lt_of_le u),
     )
 
 pub returns : goal.returns
 returns c e =
-    let l = c.before in
-    let w = l.before.before.before.before in
+    let w = c.before.before.before.before.before in
     let r = (start w).requires.row in
-    harmless w (λ s p h k. l.loop-s.invariant.1 s (shape-from _ _ _ s h)
+    harmless w (λ s p h k. c.loop-s.invariant.1 s (shape-from _ _ _ s h)
     (omega (arith, c.loop-s-test.false, shape-upto (start w).requires.table r.from r.upto s h)) p h k)

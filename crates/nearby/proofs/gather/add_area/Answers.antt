@@ -21,19 +21,18 @@ Else-suspects-count-lt-SUSPECT = lts.Else4 tie.the-claims reads.Pre reads.Post
 
 pub returns-then-remember : goal.returns-then-remember
 returns-then-remember c block table i s threat =
-    let m = c.before in
-    grows-known threat m.remember.ensures c.if-remember.true m.before.before.if-fills.true
+    grows-known threat c.remember.ensures c.if-remember.true c.if-fills.true
 
 -- the known areas are as they were
-known_same : (c : Joined-fills) → c.if1.known ≡ c.before.args.known.now
+known_same : (c : Joined-fills) → c.if1.known ≡ c.args.known.now
 known_same c = ⊎_elim (λ x. x.4 ∙ x.2.ensures.same x.3.left) (λ x. x.1) c.if-fills.branch
 
 pub returns-then-count-ge-FULL : goal.returns-then-count-ge-FULL
 returns-then-count-ge-FULL c block table i s threat = rw (known_same c.before) grows-full
 
 -- the suspects there are have room
-fits : (c : goal.Else-count-ge-FULL) → suspect_at c.before.before.args.count ≤ length c.before.before.args.suspects.now
-fits c = c.before.before.requires.fits (omega (arith, c.if-count-ge-FULL.false))
+fits : (c : goal.Else-count-ge-FULL) → suspect_at c.args.count ≤ length c.args.suspects.now
+fits c = c.requires.fits (omega (arith, c.if-count-ge-FULL.false))
 
 pub overflow_sub-suspects : goal.overflow_sub-suspects
 overflow_sub-suspects c = fits c
@@ -42,16 +41,15 @@ pub returns-then-suspects-count-lt-SUSPECT : goal.returns-then-suspects-count-lt
 returns-then-suspects-count-lt-SUSPECT c block table i s threat = rw (known_same c.before.before) grows-full
 
 -- one more has room
-room : (c : Else-suspects-count-lt-SUSPECT) → let a = c.before.before.before.args in suspect_at (suc a.count) ≤ length a.suspects.now
+room : (c : Else-suspects-count-lt-SUSPECT) → let a = c.args in suspect_at (suc a.count) ≤ length a.suspects.now
 room c = omega (arith, c.if-suspects-count-lt-SUSPECT.false, fits c.before)
 
 pub put_suspect-requires : goal.put_suspect-requires
-put_suspect-requires c = let p = c.before.before.before.before.requires in (room c.before, p.rule, p.row)
+put_suspect-requires c = let p = c.requires in (room c.before, p.rule, p.row)
 
 pub returns : goal.returns
 returns c block table i s threat =
-    let x = c.before in
-    let f = x.before.before in
-    let p = f.before.before.before.requires in
-    let e = x.put_suspect.ensures in
+    let f = c.before.before.before in
+    let p = f.requires in
+    let e = c.put_suspect.ensures in
     rw (known_same f.before.before) (grows-suspect threat _ e.0 e.1 e.2 e.3 p.rule p.row (room f))

@@ -23,17 +23,16 @@ returns-then-own-other c = grows_none (itself-none _ _ _ _ _ _ c.if-own-other.tr
 
 pub names_row-requires : goal.names_row-requires
 names_row-requires c =
-    let p = c.before.before.requires in
+    let p = c.requires in
     let r = p.1.rule in
     (r, p.0.subject.accepted.row_sets _ r.below, row-bit p.2)
 
 pub returns-then-not-names_row : goal.returns-then-not-names_row
 returns-then-not-names_row c =
-    let n = c.before in
-    grows_none (unnamed-none _ _ _ _ _ _ n.before.if-own-other.false (sym n.names_row.ensures ∙ not-true c.if-not-names_row.true-raw))
+    grows_none (unnamed-none _ _ _ _ _ _ c.if-own-other.false (sym c.names_row.ensures ∙ not-true c.if-not-names_row.true-raw))
 
 pub lowest_shape-t-requires : goal.lowest_shape-t-requires
-lowest_shape-t-requires c = let p = c.before.before.before.before.requires in (p.0.subject.table, p.2)
+lowest_shape-t-requires c = let p = c.requires in (p.0.subject.table, p.2)
 
 -- the other row, which the rule names, and its lowest shape
 abbrev start : goal.After-lowest_shape-t → Start
@@ -42,14 +41,13 @@ start c = c.before.before.before.before.before
 rival : (c : goal.After-lowest_shape-t) → let a = (start c).args in
     Rival a.block.now a.table.now a.outline.now a.q.i a.q.s a.r a.j c.lowest_shape-t.result
 rival c =
-    let n = c.before.before in
     let p = (start c).requires in
     record {
       subject = p.0.subject;
       binds = p.1;
       row = p.2;
-      another = n.before.if-own-other.false;
-      names = sym n.names_row.ensures ∙ not-false c.before.if-not-names_row.false-raw;
+      another = c.if-own-other.false;
+      names = sym c.names_row.ensures ∙ not-false c.if-not-names_row.false-raw;
       lowest = c.lowest_shape-t.ensures;
     }
 
@@ -63,9 +61,7 @@ pair_meets-x-requires c = let x = rival c.before in (rw c.hulls-pair.ensures (ri
 
 pub returns-then-not-hit : goal.returns-then-not-hit
 returns-then-not-hit c =
-    let m = c.before in
-    let h = m.before in
-    grows-clear (rival-clear (rival h.before) (rw h.hulls-pair.ensures at (m.pair_meets-x.ensures.clear (not-true c.if-not-hit.true-raw))))
+    grows-clear (rival-clear (rival c.before.before.before) (rw c.hulls-pair.ensures at (c.pair_meets-x.ensures.clear (not-true c.if-not-hit.true-raw))))
 
 pub fills_hulls-fills-requires : goal.fills_hulls-fills-requires
 fills_hulls-fills-requires c =
@@ -94,11 +90,6 @@ add_area-requires c =
 
 pub returns : goal.returns
 returns c =
-    let d = c.before in
-    let f = d.before.before.before in
-    let e = f.before.before in
-    let m = e.before in
-    let h = m.before in
-    let x = rival h.before in
-    let area = rw h.hulls-pair.ensures at (m.pair_meets-x.ensures.area (not-false e.if-not-hit.false-raw)) in
-    grows-by (rival-set x) (d.add_area.ensures _ _ _ _ (rival-threat x area f.fills_hulls-fills.ensures))
+    let x = rival c.before.before.before.before.before.before.before.before.before in
+    let area = rw c.hulls-pair.ensures at (c.pair_meets-x.ensures.area (not-false c.if-not-hit.false-raw)) in
+    grows-by (rival-set x) (c.add_area.ensures _ _ _ _ (rival-threat x area c.fills_hulls-fills.ensures))

@@ -19,10 +19,9 @@ rows_of-n-requires c = c.requires.0.subject.accepted.head
 
 pub loop-j-init : goal.loop-j-init
 loop-j-init c =
-    let s = c.before in
-    let a = s.args in (
+    let a = c.args in (
       omega arith,
-      s.requires.0.open_list,
+      c.requires.0.open_list,
       grows_start (λ m p. row_forbids a.block.now a.table.now a.r.number p a.q.i.number a.q.s (suc m)),
       refl,
     )
@@ -33,37 +32,32 @@ start l = l.before.before.before
 pub row_place-other-requires : goal.row_place-other-requires
 row_place-other-requires c =
     let w = (start c).requires.0.subject in
-    (w.accepted.head, w.table.whole, up_next (omega (arith, c.before.before.rows_of-n.ensures, c.loop-j-test.true)))
+    (w.accepted.head, w.table.whole, up_next (omega (arith, c.rows_of-n.ensures, c.loop-j-test.true)))
 
 pub add_row-found-requires : goal.add_row-found-requires
 add_row-found-requires c =
-    let x = c.before.before in
-    let l = x.before in
+    let l = c.before.before.before in
     let p = (start l).requires in
-    (record { subject = p.0.subject; open_list = l.before.loop-j.invariant.1 }, p.1, x.row_place-other.ensures.0)
+    (record { subject = p.0.subject; open_list = l.loop-j.invariant.1 }, p.1, c.row_place-other.ensures.0)
 
 pub loop-j-preserved : goal.loop-j-preserved
 loop-j-preserved c =
-    let w = c.before in
-    let x = w.before.before.before in
-    let l = x.before in
-    let v = l.before.loop-j.invariant in
+    let l = c.before.before.before.before.before in
+    let v = l.loop-j.invariant in
     let a = (start l).args in (
       omega (arith, l.loop-j-test.true),
-      open_after w.add_row-found.ensures v.1,
+      open_after c.add_row-found.ensures v.1,
       grows-more (λ m p. row_forbids a.block.now a.table.now a.r.number p a.q.i.number a.q.s (suc m)) v.2
-          (rw (x.row_place-other.ensures.1 ∙ add-one l.before.loop-j.j) at w.add_row-found.ensures),
+          (rw (c.row_place-other.ensures.1 ∙ add-one l.loop-j.j) at c.add_row-found.ensures),
       c.suspects-1.given ∙ v.3,
     )
 
 pub shape_of-suspects : goal.shape_of-suspects
-shape_of-suspects c = c.before.loop-j.invariant.3
+shape_of-suspects c = c.loop-j.invariant.3
 
 pub returns : goal.returns
 unfolding rows_forbid
 returns c =
-    let l = c.before in
-    let s = l.before.before in
-    let q : l.loop-j.j ≡ rows s.args.block.now s.args.table.now =
-    omega (arith, l.before.rows_of-n.ensures, l.loop-j.invariant.0, c.loop-j-test.false) in
-    rw q at l.loop-j.invariant.2
+    let q : c.loop-j.j ≡ rows c.args.block.now c.args.table.now =
+    omega (arith, c.rows_of-n.ensures, c.loop-j.invariant.0, c.loop-j-test.false) in
+    rw q at c.loop-j.invariant.2

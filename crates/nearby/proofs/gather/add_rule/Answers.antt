@@ -26,14 +26,14 @@ pub rule_counts-requires : goal.rule_counts-requires
 rule_counts-requires c = let w = c.requires.0.subject in (w.outline.rules.count, omega (arith, c.requires.1, w.accepted.head.few_rules))
 
 pub returns-then-not-rule_counts : goal.returns-then-not-rule_counts
-returns-then-not-rule_counts c = grows_none (λ p. rw (sym c.before.rule_counts.ensures ∙ not-true c.if-not-rule_counts.true-raw))
+returns-then-not-rule_counts c = grows_none (λ p. rw (sym c.rule_counts.ensures ∙ not-true c.if-not-rule_counts.true-raw))
 
 pub rule_place-rule-requires : goal.rule_place-rule-requires
-rule_place-rule-requires c = let p = c.before.before.requires in (p.0.subject.accepted.head, p.1)
+rule_place-rule-requires c = let p = c.requires in (p.0.subject.accepted.head, p.1)
 
 pub is_non_overlap_of-requires : goal.is_non_overlap_of-requires
 is_non_overlap_of-requires c =
-    let w = c.before.before.before.requires.0.subject in
+    let w = c.requires.0.subject in
     (w.accepted, c.rule_place-rule.ensures.0, row-bit w.row)
 
 -- what the test of the rule tells
@@ -45,7 +45,7 @@ apart : (c : After-is_non_overlap_of) → let a = (start c).args in
 apart c =
     let a = (start c).args in
     c.is_non_overlap_of.ensures
-    ∙ ap (λ (m : ℕ). is_non_overlap a.block.now m && names_row a.block.now m a.q.i.number) c.before.rule_place-rule.ensures.1
+    ∙ ap (λ (m : ℕ). is_non_overlap a.block.now m && names_row a.block.now m a.q.i.number) c.rule_place-rule.ensures.1
 
 forbid-parts : (c : After-is_non_overlap_of) (p : List ℤ) → let a = (start c).args in
     (bit (word a.outline.now rules_at) a.r && rule_forbids a.block.now a.table.now a.q.i.number a.q.s a.r p) ≡ true
@@ -61,16 +61,14 @@ returns-then-not-is_non_overlap_of c =
 
 pub add_rows-requires : goal.add_rows-requires
 add_rows-requires c =
-    let f = c.before.before in
-    let o = f.before in
-    let u = and-true (sym o.is_non_overlap_of.ensures ∙ not-false f.if-not-is_non_overlap_of.false-raw) in
-    ((start o).requires.0, record { rule = o.before.rule_place-rule.ensures.0; kind = u.0; names = u.1 })
+    let o = c.before.before.before in
+    let u = and-true (sym o.is_non_overlap_of.ensures ∙ not-false c.if-not-is_non_overlap_of.false-raw) in
+    ((start o).requires.0, record { rule = o.rule_place-rule.ensures.0; kind = u.0; names = u.1 })
 
 pub returns : goal.returns
 returns c =
-    let w = c.before in
-    let o = w.before.before.before.before in
+    let o = c.before.before.before.before.before in
     let a = (start o).args in
     grows-by (λ p h. ap (λ (m : ℕ). rows_forbid a.block.now a.table.now m a.q.i.number a.q.s p)
-    o.before.rule_place-rule.ensures.1 ∙ (forbid-parts o p h).1)
-    w.add_rows.ensures
+    o.rule_place-rule.ensures.1 ∙ (forbid-parts o p h).1)
+    c.add_rows.ensures

@@ -9,12 +9,10 @@ returns-then-not-has_one_shape c e = clash e refl
 
 pub returns-then-is_single : goal.returns-then-is_single
 returns-then-is_single c e =
-    let x = c.before in
-    let y = x.before.before in
     record {
-      own = x.before.is_single.ensures x.if-is_single.true;
+      own = c.is_single.ensures c.if-is_single.true;
       other = c.is_single-then-is_single.ensures e;
-      one = sym y.before.has_one_shape.ensures ∙ not-false y.if-not-has_one_shape.false-raw;
+      one = sym c.has_one_shape.ensures ∙ not-false c.if-not-has_one_shape.false-raw;
     }
 
 pub returns-else-is_single : goal.returns-else-is_single

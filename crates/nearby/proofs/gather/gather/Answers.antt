@@ -32,18 +32,18 @@ abbrev Left-loop-r : Type 0
 Left-loop-r = lts.Left-loop tie.the-claims reads.Pre reads.Post goal.the-invariant-loop-r goal.the-decreases-loop-r
 
 pub rules_of-n-requires : goal.rules_of-n-requires
-rules_of-n-requires c = c.before.before.requires.accepted.head
+rules_of-n-requires c = c.requires.accepted.head
 
 pub counting-counted-requires : goal.counting-counted-requires
-counting-counted-requires c = c.before.before.before.requires.outline.rules.count
+counting-counted-requires c = c.requires.outline.rules.count
 
 -- before the loop
 abbrev start : goal.After-counting-counted → Start
 start c = c.before.before.before.before
 
 begin : (c : goal.After-counting-counted) → let a = (start c).args in
-    Open a.block.now a.table.now a.i.number a.s a.suspects.now c.before.before.forget.new.known 0
-begin c = let e = c.before.before.forget.ensures in gathered-start (known-none e.0 e.1)
+    Open a.block.now a.table.now a.i.number a.s a.suspects.now c.forget.new.known 0
+begin c = let e = c.forget.ensures in gathered-start (known-none e.0 e.1)
 
 pub loop-r-init : goal.loop-r-init
 loop-r-init c =
@@ -57,48 +57,43 @@ loop-r-init c =
 pub is_below-requires : goal.is_below-requires
 is_below-requires c =
     let b = c.before.before in
-    omega (arith, c.loop-r-test.true, b.before.rules_of-n.ensures, (start b).requires.accepted.head.few_rules)
+    omega (arith, c.loop-r-test.true, b.rules_of-n.ensures, (start b).requires.accepted.head.few_rules)
 
 pub add_rule-found-requires : goal.add_rule-found-requires
 add_rule-found-requires c =
-    let l = c.before.before.before.before in
-    let b = l.before.before in
-    (record { subject = (start b).requires; open_list = l.before.loop-r.invariant.1 }, omega (arith, l.loop-r-test.true, b.before.rules_of-n.ensures))
+    let b = c.before.before.before.before.before.before in
+    (record { subject = (start b).requires; open_list = c.loop-r.invariant.1 }, omega (arith, c.loop-r-test.true, b.rules_of-n.ensures))
 
 pub loop-r-preserved : goal.loop-r-preserved
 loop-r-preserved c =
-    let w = c.before in
-    let l = w.before.before.before.before.before in
-    let v = l.before.loop-r.invariant in
-    let a = (start l.before.before).args in (
-      omega (arith, l.loop-r-test.true),
-      open_after w.add_rule-found.ensures v.1,
+    let v = c.loop-r.invariant in
+    let a = (start c.before.before.before.before.before.before.before.before).args in (
+      omega (arith, c.loop-r-test.true),
+      open_after c.add_rule-found.ensures v.1,
       grows-more (λ m p. bit (word a.outline.now rules_at) m && rule_forbids a.block.now a.table.now a.i.number a.s m p)
-          v.2 w.add_rule-found.ensures,
+          v.2 c.add_rule-found.ensures,
       c.suspects-1.given ∙ v.3,
     )
 
 -- the loop ends past every rule that counts
 no_more : (c : Left-loop-r) (q : ℕ) → let a = (start c.before.before).args in
-    q < rules a.block.now → bit (word a.outline.now rules_at) q ≡ true → q < c.before.loop-r.r
+    q < rules a.block.now → bit (word a.outline.now rules_at) q ≡ true → q < c.loop-r.r
 no_more c q h e =
-    let b = c.before.before in
     ⊎_elim
-    (λ x. omega (arith, x.left, b.before.rules_of-n.ensures))
+    (λ x. omega (arith, x.left, c.rules_of-n.ensures))
     (λ x. ⊎_elim (λ l. l)
-    (λ l. clash e (bit_past _ (subst (λ (n : ℕ). n < 2 ^ c.before.loop-r.r) b.counting-counted.ensures (x.1.ensures.0 x.2.taken)) l))
-    (below_or q c.before.loop-r.r))
+    (λ l. clash e (bit_past _ (subst (λ (n : ℕ). n < 2 ^ c.loop-r.r) c.counting-counted.ensures (x.1.ensures.0 x.2.taken)) l))
+    (below_or q c.loop-r.r))
     c.loop-r-test.branch
 
 pub shape_of-suspects-then-found-lt-FULL : goal.shape_of-suspects-then-found-lt-FULL
-shape_of-suspects-then-found-lt-FULL c = c.before.before.loop-r.invariant.3
+shape_of-suspects-then-found-lt-FULL c = c.loop-r.invariant.3
 
 pub returns-then-found-lt-FULL : goal.returns-then-found-lt-FULL
 returns-then-found-lt-FULL c =
     let e = c.before in
-    let l = e.before in
-    let b = l.before in
-    let g = l.loop-r.invariant.2.after (λ p. false) (begin b) in
+    let b = e.before.before in
+    let g = e.loop-r.invariant.2.after (λ p. false) (begin b) in
     let f = c.if-found-lt-FULL.true in (
       record {
         areas = g.areas;
@@ -110,8 +105,8 @@ returns-then-found-lt-FULL c =
     )
 
 pub shape_of-suspects : goal.shape_of-suspects
-shape_of-suspects c = c.before.before.loop-r.invariant.3
+shape_of-suspects c = c.loop-r.invariant.3
 
 pub returns : goal.returns
 returns c =
-    (record { areas = c.before.before.loop-r.invariant.1.areas; suspects = suspects-none _; meets = λ w. clash w refl }, refl, refl)
+    (record { areas = c.loop-r.invariant.1.areas; suspects = suspects-none _; meets = λ w. clash w refl }, refl, refl)

@@ -6,5 +6,5 @@ use Rattle.nearby.proofs.gather.hulls.Goals as goal
 
 pub returns : goal.returns
 returns c =
-    let a = c.before.before.args in
-    ap₂ (λ (x y : ℕ). record { r = a.r; own = x; j = a.j; other = y }) c.before.hull_of.ensures c.hull_of-2.ensures
+    let a = c.args in
+    ap₂ (λ (x y : ℕ). record { r = a.r; own = x; j = a.j; other = y }) c.hull_of.ensures c.hull_of-2.ensures

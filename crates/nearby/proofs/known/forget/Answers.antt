@@ -13,5 +13,5 @@ use Rattle.nearby.proofs.known.forget.Goals as goal
 pub returns : goal.returns
 returns c =
     let q = c.put_count.ensures in
-    let e = ap (λ (l : List ℤ). word l 0) q ∙ get_or-set_same c.before.before.args.known.now 0 (pos 0) (pos 0) (search rules) in
+    let e = ap (λ (l : List ℤ). word l 0) q ∙ get_or-set_same c.args.known.now 0 (pos 0) (pos 0) (search rules) in
     (counted-by e (omega arith), ap nat e)

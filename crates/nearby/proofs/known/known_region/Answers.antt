@@ -16,6 +16,7 @@ use Rattle.points.specs.Area.{in_area}
 use Rattle.forbid.specs.Region.{no_region}
 use Rattle.nearby.specs.Places.{known_count, known_area}
 use Rattle.nearby.specs.Known.{known_holds, KnownRegion}
+use Rattle.nearby.proofs.known.known_region.Invariants.{NoneFrom}
 use Rattle.nearby.proofs.known.known_region.Lts as lts
 use Rattle.nearby.proofs.known.known_region.Reads as reads
 use Rattle.nearby.proofs.known.known_region.Tie as tie
@@ -23,10 +24,6 @@ use Rattle.nearby.proofs.known.known_region.Goals as goal
 
 abbrev After-area_holds : Type 0
 After-area_holds = lts.After-area_holds tie.the-claims reads.Pre reads.Post goal.the-invariant-loop-e goal.the-decreases-loop-e
-
--- no area from e on holds p
-abbrev NoneFrom : List ℤ → List ℤ → List ℤ → ℕ → Type 0
-NoneFrom block known p e = (m : ℕ) → e ≤ m → m < known_count known → in_area (axes block) (known_area known m) p ≡ false
 
 pub axes_of-k-requires : goal.axes_of-k-requires
 axes_of-k-requires c = c.requires.0
@@ -39,13 +36,13 @@ module _ (l : goal.In-loop-e) where
   s = l.before.before.before.before.before
 
   abbrev last : ℕ
-  last = l.before.loop-e.e - 1
+  last = l.loop-e.e - 1
 
-  few : l.before.loop-e.e ≤ 64
-  few = omega (arith, l.before.loop-e.invariant.0, s.requires.1.few)
+  few : l.loop-e.e ≤ 64
+  few = omega (arith, l.loop-e.invariant.0, s.requires.1.few)
 
   below : last < known_count s.args.known.now
-  below = omega (arith, l.before.loop-e.invariant.0, l.loop-e-test.true)
+  below = omega (arith, l.loop-e.invariant.0, l.loop-e-test.true)
 
 pub overflow_sub-e : goal.overflow_sub-e
 overflow_sub-e c = omega (arith, c.loop-e-test.true)
@@ -60,7 +57,7 @@ pub area_holds-requires : goal.area_holds-requires
 area_holds-requires c =
     let l = c.before in (
       omega (arith, few l, l.loop-e-test.true, c.area_holds-arg-1.given.0),
-      omega (arith, (s l).requires.0.few_axes, l.before.before.before.before.axes_of-k.ensures),
+      omega (arith, (s l).requires.0.few_axes, l.axes_of-k.ensures),
     )
 
 pub area_at-requires : goal.area_at-requires
@@ -75,12 +72,11 @@ tested : (c : After-area_holds) → c.area_holds.result
 tested c =
     let l = c.before.before in
     c.area_holds.ensures
-    ∙ ap (λ (k : ℕ). in_area k (known_area (s l).args.known.now (last l)) (s l).args.p) l.before.before.before.before.axes_of-k.ensures
+    ∙ ap (λ (k : ℕ). in_area k (known_area (s l).args.known.now (last l)) (s l).args.p) l.axes_of-k.ensures
 
 pub returns-then-area_holds : goal.returns-then-area_holds
 returns-then-area_holds c =
-    let t = c.before.before in
-    let h = t.before in
+    let h = c.before.before.before in
     let l = h.before.before in
     let block = (s l).args.block.now in
     let p = (s l).args.p in
@@ -90,13 +86,13 @@ returns-then-area_holds c =
         entry = last l;
         below = below l;
         is = e;
-        holds = ap (λ (a : Area). in_area (axes block) a p) e ∙ sym (tested h) ∙ t.if-area_holds.true;
+        holds = ap (λ (a : Area). in_area (axes block) a p) e ∙ sym (tested h) ∙ c.if-area_holds.true;
       };
       missed = λ u. clash refl u;
     }
 
 pub loop-e-smaller : goal.loop-e-smaller
-loop-e-smaller c = omega (arith, c.before.before.before.loop-e-test.true)
+loop-e-smaller c = omega (arith, c.loop-e-test.true)
 
 pub loop-e-preserved : goal.loop-e-preserved
 loop-e-preserved c =
@@ -107,7 +103,7 @@ loop-e-preserved c =
       omega (arith, below l),
       λ m f u. ⊎_elim
           (λ q. ap (λ (n : ℕ). in_area (axes block) (known_area known n) (s l).args.p) q ∙ sym (tested h) ∙ c.if-area_holds.false)
-          (λ n. l.before.loop-e.invariant.1 m (omega (arith, f, n)) u)
+          (λ n. l.loop-e.invariant.1 m (omega (arith, f, n)) u)
           (same_or m (last l)),
     )
 
@@ -123,7 +119,6 @@ missed-all block known p e z f = record {
 
 pub returns : goal.returns
 returns c =
-    let l = c.before.before in
-    let a = l.before.before.before.before.args in
+    let a = c.args in
     subst (KnownRegion a.block.now a.known.now a.p) (sym c.none.ensures)
-    (missed-all a.block.now a.known.now a.p l.loop-e.e c.before.loop-e-test.false l.loop-e.invariant.1)
+    (missed-all a.block.now a.known.now a.p c.loop-e.e c.loop-e-test.false c.loop-e.invariant.1)

@@ -18,6 +18,10 @@ use Rattle.nearby.specs.Places.{known_count, known_area}
 use Rattle.nearby.specs.Known.{known_holds, KnownRegion}
 use Rattle.nearby.proofs.known.known_region.Given as goal
 
+-- no area from e on holds p
+abbrev pub NoneFrom : List ℤ → List ℤ → List ℤ → ℕ → Type 0
+NoneFrom block known p e = (m : ℕ) → e ≤ m → m < known_count known → in_area (axes block) (known_area known m) p ≡ false
+
 abbrev pub invariant-loop-e : goal.invariant-loop-e
 invariant-loop-e l = (l.e ≤ known_count l.known) × NoneFrom l.block l.known l.p l.e
 

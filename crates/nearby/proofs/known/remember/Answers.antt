@@ -5,11 +5,9 @@ use Rattle.nearby.proofs.Remembered.{remembered, not-remembered}
 use Rattle.nearby.proofs.known.remember.Goals as goal
 
 pub returns-then-n-ge-AREAS : goal.returns-then-n-ge-AREAS
-returns-then-n-ge-AREAS c = not-remembered c.before.before.before.before.requires
+returns-then-n-ge-AREAS c = not-remembered c.requires
 
 pub returns : goal.returns
 returns c =
-    let a = c.before.before in
-    let n = a.before.before.before in
-    let e = a.put_area.ensures in
-    remembered n.count_at-n.ensures (omega (arith, a.before.before.if-n-ge-AREAS.false)) (search rules) e.0 e.1 c.put_count.ensures
+    let e = c.put_area.ensures in
+    remembered c.count_at-n.ensures (omega (arith, c.if-n-ge-AREAS.false)) (search rules) e.0 e.1 c.put_count.ensures

@@ -8,9 +8,9 @@ use Rattle.nearby.proofs.suspect.most.Goals as goal
 
 pub overflow_mul-result : goal.overflow_mul-result
 overflow_mul-result c =
-    let n = c.before.rows_of.result in
-    let h : n ≤ 32 = omega (arith, c.before.rows_of.ensures, c.before.before.requires.1.few_rows) in
+    let n = c.rows_of.result in
+    let h : n ≤ 32 = omega (arith, c.rows_of.ensures, c.requires.1.few_rows) in
     omega (arith, mul-le-mul_right c.how_many.result h, c.how_many.ensures.1)
 
 pub returns : goal.returns
-returns c = ap₂ ◌*◌ c.before.rows_of.ensures c.how_many.ensures.0
+returns c = ap₂ ◌*◌ c.rows_of.ensures c.how_many.ensures.0

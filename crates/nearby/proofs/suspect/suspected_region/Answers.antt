@@ -23,12 +23,8 @@ use Rattle.forbid.proofs.Regions.{missed, miss, forbids-same, forbids-by}
 use Rattle.forbid.proofs.Rows.{set_single}
 use Rattle.nearby.specs.Places.{suspect_at, rule_of, row_of, suspect_area}
 use Rattle.nearby.specs.Listing.{Suspect}
+use Rattle.nearby.proofs.suspect.suspected_region.Invariants.{Silent}
 use Rattle.nearby.proofs.suspect.suspected_region.Goals as goal
-
--- suspect m forbids p to no row with shape s, if its area holds p
-abbrev Silent : List ℤ → List ℤ → List ℤ → List ℤ → ℕ → ℕ → Type 0
-Silent block table list p s m =
-    (i : ℕ) → in_area (axes block) (suspect_area list m) p ≡ true → set_forbids block table (rule_of list m) p i s (row_of list m) ≡ false
 
 module _ (block : List ℤ) (table : List ℤ) (i : ℕ) (s : ℕ) where
   -- rule r and row j forbid what suspect m does, where they are its rule and its row
@@ -46,7 +42,7 @@ pub axes_of-k-requires : goal.axes_of-k-requires
 axes_of-k-requires c = c.requires.at_point.accepted.head
 
 pub forbidding_region-requires : goal.forbidding_region-requires
-forbidding_region-requires c = let p = c.before.before.before.requires in (p.at_point, p.row)
+forbidding_region-requires c = let p = c.requires in (p.at_point, p.row)
 
 pub returns-then-not-whole : goal.returns-then-not-whole
 returns-then-not-whole c = c.forbidding_region.ensures
@@ -59,7 +55,7 @@ module _ (l : goal.In-loop-e) where
   start = l.before.before.before.before.before
 
   abbrev at : ℕ
-  at = l.before.loop-e.e
+  at = l.loop-e.e
 
   room : suspect_at (suc at) ≤ length start.args.suspects.now
   room = omega (arith, l.loop-e-test.true, start.requires.suspects.fits)
@@ -76,7 +72,7 @@ overflow_add-at c = omega (arith, room c)
 
 pub area_holds-requires : goal.area_holds-requires
 area_holds-requires c =
-    (omega (arith, room c), omega (arith, (start c).requires.at_point.accepted.head.few_axes, c.before.before.before.before.axes_of-k.ensures))
+    (omega (arith, room c), omega (arith, (start c).requires.at_point.accepted.head.few_axes, c.axes_of-k.ensures))
 
 pub count_at-requires : goal.count_at-requires
 count_at-requires c = let l = c.before.before in (omega (arith, room l), (is l).rule_count)
@@ -119,7 +115,7 @@ module _ (c : goal.After-row_place-j) where
   shape = (start inner).args.nearby.s
 
   abbrev r : Place
-  r = c.before.before.rule_place-r.result
+  r = c.rule_place-r.result
 
   abbrev j : Place
   j = c.row_place-j.result
@@ -127,7 +123,7 @@ module _ (c : goal.After-row_place-j) where
   versus : Versus block table (start inner).args.outline.now r shape j point
   versus = record {
     at_point = (start inner).requires.at_point;
-    rule = c.before.before.rule_place-r.ensures.0;
+    rule = c.rule_place-r.ensures.0;
     row = c.row_place-j.ensures.0;
   }
 
@@ -136,8 +132,8 @@ module _ (c : goal.After-row_place-j) where
       → IsRegion (axes block) (forbidden block table row shape) point x
   found = forbids-by (λ q h. (is inner).sound q
       (of-suspect block table row shape (start inner).args.suspects.now (at inner) q
-      (c.before.before.rule_place-r.ensures.1 ∙ c.before.before.before.count_at.ensures)
-      (c.row_place-j.ensures.1 ∙ c.before.count_at-then-area_holds.ensures) ∙ h))
+      (c.rule_place-r.ensures.1 ∙ c.count_at.ensures)
+      (c.row_place-j.ensures.1 ∙ c.count_at-then-area_holds.ensures) ∙ h))
 
 pub has_one_shape-requires : goal.has_one_shape-requires
 has_one_shape-requires c =
@@ -154,25 +150,22 @@ shapes_region-x-requires c =
 
 pub returns-then-hit : goal.returns-then-hit
 returns-then-hit c =
-    let l = c.before.before in
-    let o = l.before.before in
-    let i = row o.before in
-    found o.before c.if-hit.true
-    (by-lowest _ _ i _ _ o.has_one_shape.ensures l.before.if-has_one_shape.true l.lowest_shape-t.ensures (c.before.shapes_region-x.ensures i))
+    let i = row c.before.before.before.before.before in
+    found c.before.before.before.before.before c.if-hit.true
+    (by-lowest _ _ i _ _ c.has_one_shape.ensures c.if-has_one_shape.true c.lowest_shape-t.ensures (c.shapes_region-x.ensures i))
 
 pub set_region-x-requires : goal.set_region-x-requires
 set_region-x-requires c = versus c.before.before
 
 pub returns-then-hit-2 : goal.returns-then-hit-2
 returns-then-hit-2 c =
-    let o = c.before.before.before in
-    found o.before c.if-hit-2.true (c.before.set_region-x.ensures (row o.before))
+    found c.before.before.before.before c.if-hit-2.true (c.set_region-x.ensures (row c.before.before.before.before))
 
 pub overflow_add-e : goal.overflow_add-e
 overflow_add-e c = omega (arith, room c.before.before)
 
 pub loop-e-smaller : goal.loop-e-smaller
-loop-e-smaller c = omega (arith, c.before.before.loop-e-test.true)
+loop-e-smaller c = omega (arith, c.loop-e-test.true)
 
 -- the suspect at hand forbids nothing: its one shape misses, or its set does, or its area does not hold the point
 silent : (c : goal.Joined-area_holds) → let l = c.before.before in let a = (start l).args in
@@ -187,8 +180,8 @@ silent c i e =
     (⊎_elim
     (λ w. of-suspect _ _ i _ list (at l) _ (w.2.ensures.1 ∙ w.1.ensures) (w.4.ensures.1 ∙ w.3.ensures)
     ∙ miss (w.7.ensures i) w.8.left)
-    (λ w. clash (c.before.area_holds.ensures
-    ∙ ap (λ (k : ℕ). in_area k (suspect_area list (at l)) a.p) l.before.before.before.before.axes_of-k.ensures ∙ e) w.left))
+    (λ w. clash (c.area_holds.ensures
+    ∙ ap (λ (k : ℕ). in_area k (suspect_area list (at l)) a.p) l.axes_of-k.ensures ∙ e) w.left))
     c.if-area_holds.branch
 
 pub loop-e-preserved : goal.loop-e-preserved
@@ -198,7 +191,7 @@ loop-e-preserved c =
       omega (arith, l.loop-e-test.true),
       λ m h. ⊎_elim
           (λ q. subst (Silent a.block.now a.table.now a.suspects.now a.p a.nearby.s) (sym q) (silent c))
-          (λ k. l.before.loop-e.invariant.1 m k)
+          (λ k. l.loop-e.invariant.1 m k)
           (last_or (subst (λ (n : ℕ). m < n) (add-one (at l)) h)),
     )
 
@@ -207,10 +200,7 @@ none-requires c = tt
 
 pub returns : goal.returns
 returns c =
-    let l = c.before.before in
-    let w = l.before in
-    let s = w.before.before.before in
     missed (fails (λ f.
-    let m = s.requires.meets (not-false w.if-not-whole.false-raw) f in
-    clash m.forbids (l.loop-e.invariant.1 m.suspect (omega (arith, m.below, c.before.loop-e-test.false)) s.args.nearby.i.number m.holds)))
+    let m = c.requires.meets (not-false c.if-not-whole.false-raw) f in
+    clash m.forbids (c.loop-e.invariant.1 m.suspect (omega (arith, m.below, c.loop-e-test.false)) c.args.nearby.i.number m.holds)))
     c.none.ensures

@@ -25,6 +25,11 @@ use Rattle.nearby.specs.Places.{suspect_at, rule_of, row_of, suspect_area}
 use Rattle.nearby.specs.Listing.{Suspect}
 use Rattle.nearby.proofs.suspect.suspected_region.Given as goal
 
+-- suspect m forbids p to no row with shape s, if its area holds p
+abbrev pub Silent : List ℤ → List ℤ → List ℤ → List ℤ → ℕ → ℕ → Type 0
+Silent block table list p s m =
+    (i : ℕ) → in_area (axes block) (suspect_area list m) p ≡ true → set_forbids block table (rule_of list m) p i s (row_of list m) ≡ false
+
 abbrev pub invariant-loop-e : goal.invariant-loop-e
 invariant-loop-e l = (l.e ≤ l.count) × ((m : ℕ) → m < l.e → Silent l.block l.table l.suspects l.p l.s m)
 

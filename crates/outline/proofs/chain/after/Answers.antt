@@ -4,12 +4,12 @@ use Rattle.outline.proofs.chain.after.Goals as goal
 
 pub count_at-requires : goal.count_at-requires
 count_at-requires c =
-    let p = c.before.requires in
-    (omega (arith, p.below, p.head.few_boxes, c.before.well_formed), p.chained.next_count _ (omega arith) p.below)
+    let p = c.requires in
+    (omega (arith, p.below, p.head.few_boxes, c.well_formed), p.chained.next_count _ (omega arith) p.below)
 
 pub returns : goal.returns
 returns c =
-    let p = c.before.before.requires in
+    let p = c.requires in
     let i = p.chained in
     let e = c.count_at.ensures in (
       rw e (i.next_after _ (omega arith) p.below),

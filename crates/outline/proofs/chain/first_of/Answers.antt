@@ -5,12 +5,12 @@ use Rattle.outline.proofs.chain.first_of.Goals as goal
 
 pub count_at-requires : goal.count_at-requires
 count_at-requires c =
-    let p = c.before.requires in
-    (omega (arith, c.before.well_formed), p.0.first_count _ p.1)
+    let p = c.requires in
+    (omega (arith, c.well_formed), p.0.first_count _ p.1)
 
 pub returns : goal.returns
 returns c =
-    let p = c.before.before.requires in
+    let p = c.requires in
     let e = c.count_at.ensures in (
       rw e (p.0.first_upto _ p.1),
       λ n. rw e (p.0.first_is _ p.1 (rw e at n)),

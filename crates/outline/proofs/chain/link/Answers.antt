@@ -24,7 +24,7 @@ Start = lts.Start tie.the-claims reads.Pre reads.Post
 
 pub shape_number-s-requires : goal.shape_number-s-requires
 shape_number-s-requires c =
-    let x = c.box_place-place.ensures.0 in (x, c.before.requires.0.shapes _ x.below)
+    let x = c.box_place-place.ensures.0 in (x, c.requires.0.shapes _ x.below)
 
 -- the box's shape
 module _ (c : After-shape_number-s) where
@@ -35,7 +35,7 @@ module _ (c : After-shape_number-s) where
   shape = c.shape_number-s.result
 
   shape-of-b : nat (shape_of s.args.block.now s.args.b) ≡ shape
-  shape-of-b = sym (c.shape_number-s.ensures ∙ ap (λ (b : ℕ). nat (shape_of s.args.block.now b)) c.before.box_place-place.ensures.1)
+  shape-of-b = sym (c.shape_number-s.ensures ∙ ap (λ (b : ℕ). nat (shape_of s.args.block.now b)) c.box_place-place.ensures.1)
 
   small : shape < shapes_most
   small = omega (arith, shape-of-b, s.requires.0.shapes_upto _ s.requires.1)
@@ -50,10 +50,9 @@ count_at-first-requires c =
 
 pub put-requires : goal.put-requires
 put-requires c =
-    let r = c.before in
-    let i = r.before.before.before in
+    let i = c.before.before.before.before in
     let few = (s i).requires.0.head.few_boxes in
-    (omega (arith, few, (s i).requires.1), omega (arith, r.count_at-first.ensures, (s i).requires.2.first_upto (shape i) (small i), few))
+    (omega (arith, few, (s i).requires.1), omega (arith, c.count_at-first.ensures, (s i).requires.2.first_upto (shape i) (small i), few))
 
 pub overflow_add-s-2 : goal.overflow_add-s-2
 overflow_add-s-2 c = omega (arith, small c.before.before.before.before.before.before)
@@ -65,15 +64,13 @@ put-requires-2 c =
 
 pub returns : goal.returns
 returns c =
-    let p = c.before.before in
-    let r = p.before.before in
-    let i = r.before.before.before in
+    let i = c.before.before.before.before.before.before.before in
     let p0 = (s i).requires in
     let block = (s i).args.block.now in
     let b = (s i).args.b in
     let o = (s i).args.outline.now in
-    let own : p.put.new.run ≡ set o b (pos (first_layout_of block o (shape i))) =
-    p.put.ensures ∙ ap (λ (n : ℕ). set o b (pos n)) r.count_at-first.ensures in
+    let own : c.put.new.run ≡ set o b (pos (first_layout_of block o (shape i))) =
+    c.put.ensures ∙ ap (λ (n : ℕ). set o b (pos n)) c.count_at-first.ensures in
     let both = c.put-2.ensures ∙ ap (λ (o : List ℤ). set o (first_at (shape i)) (pos b)) own in
     subst (λ (o : List ℤ). ChainedFrom block o b) (sym both)
     (chained_more p0.0 p0.2 p0.1 (omega (arith, (s i).well_formed)) (shape-of-b i))

@@ -39,10 +39,10 @@ loop-s-smaller c = omega arith
 
 pub loop-s-preserved : goal.loop-s-preserved
 loop-s-preserved c =
-    let l = c.before.before.before in (
+    (
       omega arith,
-      more l.loop-s.outline (omega arith) c.put.ensures l.loop-s.invariant.1,
+      more c.loop-s.outline (omega arith) c.put.ensures c.loop-s.invariant.1,
     )
 
 pub returns : goal.returns
-returns c = λ s k. c.before.loop-s.invariant.1 s (omega (arith, c.loop-s-test.false))
+returns c = λ s k. c.loop-s.invariant.1 s (omega (arith, c.loop-s-test.false))

@@ -18,36 +18,34 @@ loop-d-init c = (omega arith, λ e l. absurd (omega arith))
 
 -- all dimensions are passed
 pub returns-then-d-k : goal.returns-then-d-k
-returns-then-d-k c = λ t d h. let l = c.before.before in l.loop-d.invariant.1 d (omega (arith, l.before.dims_of-k.ensures, c.if-d-k.true))
+returns-then-d-k c = λ t d h. c.loop-d.invariant.1 d (omega (arith, c.dims_of-k.ensures, c.if-d-k.true))
 
 -- the dimension at hand is one of the sheet's
-is-dim : (c : goal.Else-d-k) → c.before.before.loop-d.d < dims c.before.before.before.before.args.block.now
-is-dim c = let l = c.before.before in omega (arith, l.before.dims_of-k.ensures, l.loop-d.invariant.0, c.if-d-k.false)
+is-dim : (c : goal.Else-d-k) → c.loop-d.d < dims c.args.block.now
+is-dim c = omega (arith, c.dims_of-k.ensures, c.loop-d.invariant.0, c.if-d-k.false)
 
 pub is_kept_in-requires : goal.is_kept_in-requires
-is_kept_in-requires c = (c.before.before.before.before.requires, is-dim c)
+is_kept_in-requires c = (c.requires, is-dim c)
 
 pub returns-then-not-is_kept_in : goal.returns-then-not-is_kept_in
 returns-then-not-is_kept_in c = λ e. clash e refl
 
 pub overflow_add-d : goal.overflow_add-d
-overflow_add-d c = omega (arith, c.before.before.before.loop-d-test.true)
+overflow_add-d c = omega (arith, c.loop-d-test.true)
 
 pub loop-d-smaller : goal.loop-d-smaller
 loop-d-smaller c = omega (arith, is-dim c.before.before)
 
 pub loop-d-preserved : goal.loop-d-preserved
 loop-d-preserved c =
-    let s = c.before in
-    let l = s.before.before.before in (
-      omega (arith, is-dim s.before),
+    (
+      omega (arith, is-dim c.before.before),
       λ e h. ⊎_elim
-          (λ q. subst (KeepsIn _ _ _) (sym q) (s.is_kept_in.ensures (not-false c.if-not-is_kept_in.false-raw)))
-          (λ k. l.loop-d.invariant.1 e k)
-          (last_or (subst (λ (n : ℕ). e < n) (add-one l.loop-d.d) h)),
+          (λ q. subst (KeepsIn _ _ _) (sym q) (c.is_kept_in.ensures (not-false c.if-not-is_kept_in.false-raw)))
+          (λ k. c.loop-d.invariant.1 e k)
+          (last_or (subst (λ (n : ℕ). e < n) (add-one c.loop-d.d) h)),
     )
 
 pub returns : goal.returns
 returns c = λ t d h.
-    let n = c.before.before in
-    c.before.loop-d.invariant.1 d (omega (arith, n.dims_of-k.ensures, n.before.requires.accepted.head.few_dims, c.loop-d-test.false))
+    c.loop-d.invariant.1 d (omega (arith, c.dims_of-k.ensures, c.requires.accepted.head.few_dims, c.loop-d-test.false))

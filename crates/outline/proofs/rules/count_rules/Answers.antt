@@ -13,11 +13,9 @@ use Rattle.outline.proofs.rules.count_rules.Goals as goal
 
 pub returns : goal.returns
 returns c =
-    let n = c.before.before in
-    let s = n.before in
-    let o = s.args.outline.now in
-    let set = n.counted-set.result in (
+    let o = c.args.outline.now in
+    let set = c.counted-set.result in (
       subst (SameTo rules_at o) (sym c.put.ensures) (same_set rules_at (pos set) (same_none rules_at o) (omega arith)),
-      rules-of-set s.requires.head n.counted-set.ensures
+      rules-of-set c.requires.head c.counted-set.ensures
           (ap (λ (o : List ℤ). word o rules_at) c.put.ensures ∙ get_or-set_same o rules_at (pos set) (pos 0) (omega arith)),
     )

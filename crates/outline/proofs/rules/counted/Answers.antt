@@ -11,27 +11,23 @@ pub rules_of-n-requires : goal.rules_of-n-requires
 rules_of-n-requires c = c.requires.head
 
 pub loop-r-init : goal.loop-r-init
-loop-r-init c = (omega arith, counted_none c.before.args.block.now)
+loop-r-init c = (omega arith, counted_none c.args.block.now)
 
 pub with_rule-set-requires : goal.with_rule-set-requires
 with_rule-set-requires c =
-    let l = c.before in
-    let n = l.before in
-    (n.before.requires, omega (arith, n.rules_of-n.ensures, c.loop-r-test.true), l.loop-r.invariant.1)
+    (c.requires, omega (arith, c.rules_of-n.ensures, c.loop-r-test.true), c.loop-r.invariant.1)
 
 pub overflow_add-r : goal.overflow_add-r
-overflow_add-r c = let n = c.before.before.before in omega (arith, n.rules_of-n.ensures, n.before.requires.head.few_rules, c.before.loop-r-test.true)
+overflow_add-r c = omega (arith, c.rules_of-n.ensures, c.requires.head.few_rules, c.loop-r-test.true)
 
 pub loop-r-smaller : goal.loop-r-smaller
-loop-r-smaller c = omega (arith, c.before.loop-r-test.true)
+loop-r-smaller c = omega (arith, c.loop-r-test.true)
 
 pub loop-r-preserved : goal.loop-r-preserved
-loop-r-preserved c = (omega (arith, c.before.loop-r-test.true), c.with_rule-set.ensures)
+loop-r-preserved c = (omega (arith, c.loop-r-test.true), c.with_rule-set.ensures)
 
 pub returns : goal.returns
 returns c =
-    let l = c.before in
-    let n = l.before in
-    let block = n.before.args.block.now in
-    let q : l.loop-r.r ≡ rules block = omega (arith, n.rules_of-n.ensures, l.loop-r.invariant.0, c.loop-r-test.false) in
-    subst (λ (m : ℕ). CountedTo block m l.loop-r.set) q l.loop-r.invariant.1
+    let block = c.args.block.now in
+    let q : c.loop-r.r ≡ rules block = omega (arith, c.rules_of-n.ensures, c.loop-r.invariant.0, c.loop-r-test.false) in
+    subst (λ (m : ℕ). CountedTo block m c.loop-r.set) q c.loop-r.invariant.1

@@ -17,42 +17,35 @@ pub returns-then-not-has_member : goal.returns-then-not-has_member
 returns-then-not-has_member c = λ e. clash e refl
 
 pub rule_place-rule-requires : goal.rule_place-rule-requires
-rule_place-rule-requires c = let s = c.before.before in (s.requires.0.head, s.requires.1)
+rule_place-rule-requires c = (c.requires.0.head, c.requires.1)
 
 pub row_set-requires : goal.row_set-requires
-row_set-requires c = (c.before.before.before.requires.0, c.rule_place-rule.ensures.0)
+row_set-requires c = (c.requires.0, c.rule_place-rule.ensures.0)
 
 pub returns-then-not-is_part : goal.returns-then-not-is_part
 returns-then-not-is_part c = λ e. clash e refl
 
 pub dim_set-requires : goal.dim_set-requires
-dim_set-requires c = let p = c.before.before.before in (p.before.before.before.requires.0, p.rule_place-rule.ensures.0)
+dim_set-requires c = (c.requires.0, c.rule_place-rule.ensures.0)
 
 pub returns-then-not-is_part-2 : goal.returns-then-not-is_part-2
 returns-then-not-is_part-2 c = λ e. clash e refl
 
 pub is_kept-requires : goal.is_kept-requires
 is_kept-requires c =
-    let p = c.before.before.before.before.before.before in
-    let s = p.before.before.before in
-    record { accepted = s.requires.0; first = p.rule_place-rule.ensures.0; second = s.requires.2 }
+    record { accepted = c.requires.0; first = c.rule_place-rule.ensures.0; second = c.requires.2 }
 
 pub returns : goal.returns
 returns c = λ e.
-    let f = c.before.before in
-    let i = f.before.before in
-    let r = i.before.before in
-    let p = r.before in
-    let m = p.before.before in
-    let block = m.before.args.block.now in
-    let rows : r.row_set.result ≡ nat (row_set block m.before.args.q) =
-    r.row_set.ensures ∙ ap (λ (q : ℕ). nat (row_set block q)) p.rule_place-rule.ensures.1 in
-    let dims : f.before.dim_set.result ≡ nat (dim_set block m.before.args.q) =
-    f.before.dim_set.ensures ∙ ap (λ (q : ℕ). nat (dim_set block q)) p.rule_place-rule.ensures.1 in (
-      sym m.has_member.ensures ∙ not-false p.before.if-not-has_member.false-raw,
+    let block = c.args.block.now in
+    let rows : c.row_set.result ≡ nat (row_set block c.args.q) =
+    c.row_set.ensures ∙ ap (λ (q : ℕ). nat (row_set block q)) c.rule_place-rule.ensures.1 in
+    let dims : c.dim_set.result ≡ nat (dim_set block c.args.q) =
+    c.dim_set.ensures ∙ ap (λ (q : ℕ). nat (dim_set block q)) c.rule_place-rule.ensures.1 in (
+      sym c.has_member.ensures ∙ not-false c.if-not-has_member.false-raw,
       record {
-        names = λ d h. ap (λ (n : ℕ). bit_at n d) (sym rows) ∙ i.before.is_part.ensures (not-false i.if-not-is_part.false-raw) d h;
-        dims_of = λ d h. f.is_part-2.ensures (not-false c.before.if-not-is_part-2.false-raw) d (ap (λ (n : ℕ). bit_at n d) dims ∙ h);
-        keeps = subst (λ (q : ℕ). Keeps block q m.before.args.r.number) p.rule_place-rule.ensures.1 (c.is_kept.ensures e);
+        names = λ d h. ap (λ (n : ℕ). bit_at n d) (sym rows) ∙ c.is_part.ensures (not-false c.if-not-is_part.false-raw) d h;
+        dims_of = λ d h. c.is_part-2.ensures (not-false c.if-not-is_part-2.false-raw) d (ap (λ (n : ℕ). bit_at n d) dims ∙ h);
+        keeps = subst (λ (q : ℕ). Keeps block q c.args.r.number) c.rule_place-rule.ensures.1 (c.is_kept.ensures e);
       },
     )

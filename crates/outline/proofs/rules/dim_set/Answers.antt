@@ -9,8 +9,7 @@ use Rattle.outline.proofs.rules.dim_set.Goals as goal
 
 is-count : (c : goal.After-dim_set_of) → Count c.dim_set_of.result
 is-count c =
-    let s = c.before in
-    subst Count (sym c.dim_set_of.ensures) (s.requires.0.dim_sets s.args.r.number s.requires.1.below)
+    subst Count (sym c.dim_set_of.ensures) (c.requires.0.dim_sets c.args.r.number c.requires.1.below)
 
 pub overflow_cast-result : goal.overflow_cast-result
 overflow_cast-result c = cast_ok (is-count c).from (is-count c).upto tt tt

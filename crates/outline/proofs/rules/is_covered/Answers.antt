@@ -9,13 +9,12 @@ pub loop-q-init : goal.loop-q-init
 loop-q-init c = omega arith
 
 pub covers-requires : goal.covers-requires
-covers-requires c = let s = c.before.before in (s.requires.0, omega (arith, s.requires.1, c.loop-q-test.true), s.requires.2)
+covers-requires c = (c.requires.0, omega (arith, c.requires.1, c.loop-q-test.true), c.requires.2)
 
 pub returns-then-covers : goal.returns-then-covers
 returns-then-covers c = λ e.
-    let f = c.before in
-    let x = f.covers.ensures c.if-covers.true in
-    record { rule = f.before.before.loop-q.q; counts = x.0; covers = x.1 }
+    let x = c.covers.ensures c.if-covers.true in
+    record { rule = c.loop-q.q; counts = x.0; covers = x.1 }
 
 pub overflow_add-q : goal.overflow_add-q
 overflow_add-q c = omega arith

@@ -20,53 +20,44 @@ rule_place-rule-requires c = (c.requires.0.head, c.requires.1)
 
 pub is_non_overlap-requires : goal.is_non_overlap-requires
 is_non_overlap-requires c =
-    let p = c.rule_place-rule.ensures.0 in (p, c.before.requires.0.kinds _ p.below)
+    let p = c.rule_place-rule.ensures.0 in (p, c.requires.0.kinds _ p.below)
 
 -- the test's answer, of rule r
-kind-test : (c : After-is_non_overlap) → let a = c.before.before.args in
+kind-test : (c : After-is_non_overlap) → let a = c.args in
     c.is_non_overlap.result ≡ is_non_overlap a.block.now a.r
 kind-test c =
-    c.is_non_overlap.ensures ∙ ap (is_non_overlap c.before.before.args.block.now) c.before.rule_place-rule.ensures.1
+    c.is_non_overlap.ensures ∙ ap (is_non_overlap c.args.block.now) c.rule_place-rule.ensures.1
 
 pub returns-then-not-is_non_overlap : goal.returns-then-not-is_non_overlap
-returns-then-not-is_non_overlap c = counted-kind c.before.before.before.requires.2 (sym (kind-test c.before) ∙ not-true c.if-not-is_non_overlap.true-raw)
+returns-then-not-is_non_overlap c = counted-kind c.requires.2 (sym (kind-test c.before) ∙ not-true c.if-not-is_non_overlap.true-raw)
 
 pub row_set-rows-requires : goal.row_set-rows-requires
-row_set-rows-requires c = let p = c.before.before in (p.before.requires.0, p.rule_place-rule.ensures.0)
+row_set-rows-requires c = (c.requires.0, c.rule_place-rule.ensures.0)
 
 pub dim_set-dims-requires : goal.dim_set-dims-requires
-dim_set-dims-requires c = let p = c.before.before.before in (p.before.requires.0, p.rule_place-rule.ensures.0)
+dim_set-dims-requires c = (c.requires.0, c.rule_place-rule.ensures.0)
 
 pub is_covered-requires : goal.is_covered-requires
 is_covered-requires c =
-    let p = c.before.before.before.before in
-    let s = p.before in
-    (s.requires.0, omega (arith, s.requires.1), p.rule_place-rule.ensures.0)
+    (c.requires.0, omega (arith, c.requires.1), c.rule_place-rule.ensures.0)
 
 pub returns-then-is_covered : goal.returns-then-is_covered
 returns-then-is_covered c =
-    let d = c.before.before in
-    let r = d.before in
-    let p = r.before.before.before in
-    let s = p.before in
-    let block = s.args.block.now in
-    let at = p.rule_place-rule.ensures.1 in
-    let rows : r.row_set-rows.result ≡ nat (row_set block s.args.r) = r.row_set-rows.ensures ∙ ap (λ (q : ℕ). nat (row_set block q)) at in
-    let dims : d.dim_set-dims.result ≡ nat (dim_set block s.args.r) = d.dim_set-dims.ensures ∙ ap (λ (q : ℕ). nat (dim_set block q)) at in
-    let x = c.before.is_covered.ensures c.if-is_covered.true in
-    let w = subst (λ (q : ℕ). CoveredBy block s.args.set q r.row_set-rows.result d.dim_set-dims.result) at x in
-    let y = subst (λ (n : ℕ). CoveredBy block s.args.set s.args.r n d.dim_set-dims.result) rows w in
-    counted_same s.requires.2 (subst (λ (n : ℕ). CoveredBy block s.args.set s.args.r (nat (row_set block s.args.r)) n) dims y)
+    let block = c.args.block.now in
+    let at = c.rule_place-rule.ensures.1 in
+    let rows : c.row_set-rows.result ≡ nat (row_set block c.args.r) = c.row_set-rows.ensures ∙ ap (λ (q : ℕ). nat (row_set block q)) at in
+    let dims : c.dim_set-dims.result ≡ nat (dim_set block c.args.r) = c.dim_set-dims.ensures ∙ ap (λ (q : ℕ). nat (dim_set block q)) at in
+    let x = c.is_covered.ensures c.if-is_covered.true in
+    let w = subst (λ (q : ℕ). CoveredBy block c.args.set q c.row_set-rows.result c.dim_set-dims.result) at x in
+    let y = subst (λ (n : ℕ). CoveredBy block c.args.set c.args.r n c.dim_set-dims.result) rows w in
+    counted_same c.requires.2 (subst (λ (n : ℕ). CoveredBy block c.args.set c.args.r (nat (row_set block c.args.r)) n) dims y)
 
 pub with_member-requires : goal.with_member-requires
 with_member-requires c =
-    let s = c.before.before.before.before.before.before.before in
-    (omega (arith, s.requires.1, s.requires.0.head.few_rules), s.requires.2.below)
+    (omega (arith, c.requires.1, c.requires.0.head.few_rules), c.requires.2.below)
 
 pub returns : goal.returns
 returns c =
-    let i = c.before.before.before.before.before in
-    let n = i.before in
-    let s = n.before.before in
-    subst (λ (x : ℕ). CountedTo s.args.block.now (s.args.r + 1) x) (sym c.with_member.ensures)
-    (counted-more s.requires.2 (sym (kind-test n) ∙ not-false i.if-not-is_non_overlap.false-raw))
+    let n = c.before.before.before.before.before.before in
+    subst (λ (x : ℕ). CountedTo n.args.block.now (n.args.r + 1) x) (sym c.with_member.ensures)
+    (counted-more n.requires.2 (sym (kind-test n) ∙ not-false c.if-not-is_non_overlap.false-raw))

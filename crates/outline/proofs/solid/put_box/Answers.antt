@@ -11,16 +11,14 @@ use Rattle.points.specs.Area.{coordinates}
 use Rattle.outline.specs.declared.solid.Extent.{Extent}
 use Rattle.outline.specs.Places.{solid_at}
 use Rattle.outline.proofs.Hulls.{Written, written_none, written-more}
+use Rattle.outline.proofs.solid.put_box.Invariants.{Own}
 use Rattle.outline.proofs.solid.put_box.Goals as goal
-
-abbrev Own : List ℤ → ℕ → ℕ → Extent → Type 0
-Own block b d x = (x.start ≡ offset block b d) × (x.end ≡ offset block b d +ℤ size block b d)
 
 pub dims_of-k-requires : goal.dims_of-k-requires
 dims_of-k-requires c = c.requires.0.head
 
 pub box_place-place-requires : goal.box_place-place-requires
-box_place-place-requires c = let s = c.before in (s.requires.0.head, s.requires.1)
+box_place-place-requires c = (c.requires.0.head, c.requires.1)
 
 below-128 : (s : goal.Start) → s.args.b < 128
 below-128 s = omega (arith, s.requires.1, s.requires.0.head.few_boxes)
@@ -46,10 +44,10 @@ module _ (c : goal.In-loop-d) where
   block = start.args.block.now
 
   abbrev d : ℕ
-  d = c.before.loop-d.d
+  d = c.loop-d.d
 
   below : d < dims block
-  below = omega (arith, place.before.dims_of-k.ensures, c.loop-d-test.true)
+  below = omega (arith, place.dims_of-k.ensures, c.loop-d-test.true)
 
   small : d < coordinates
   small = omega (arith, below, start.requires.0.head.few_dims)
@@ -104,7 +102,7 @@ loop-d-preserved c =
     let l = (i z).before in (
       omega (arith, (i z).loop-d-test.true),
       subst (Written (solid_at (b z)) (l.loop-d.d + 1) (Own (block (i z)) (b z)) (start (i z)).args.outline.now) (sym c.put_extent.ensures)
-          (written-more l.loop-d.outline _ (small (i z)) (omega (arith, below-128 (start (i z)), small (i z), c.before.put_extent-arg-1.given))
+          (written-more l.loop-d.outline _ (small (i z)) (omega (arith, below-128 (start (i z)), small (i z), c.put_extent-arg-1.given))
           l.loop-d.invariant.1 (
             exact (bnd (offset-within z)) tt ∙ offset-is z,
             exact (bnd (offset-within z) +ʷ bnd (size-within z)) tt ∙ ap₂ ◌+ℤ◌ (offset-is z) (size_is z),
@@ -113,9 +111,8 @@ loop-d-preserved c =
 
 pub returns : goal.returns
 returns c =
-    let l = c.before in
-    let w = l.loop-d.invariant.1 in
-    let n = l.before.before.dims_of-k.ensures in (
+    let w = c.loop-d.invariant.1 in
+    let n = c.dims_of-k.ensures in (
       w.same,
       record {
         starts = λ d k. (w.is d (omega (arith, n, c.loop-d-test.false))).0;

@@ -13,6 +13,9 @@ use Rattle.outline.specs.Places.{solid_at}
 use Rattle.outline.proofs.Hulls.{Written, written_none, written-more}
 use Rattle.outline.proofs.solid.put_box.Given as goal
 
+abbrev pub Own : List ℤ → ℕ → ℕ → Extent → Type 0
+Own block b d x = (x.start ≡ offset block b d) × (x.end ≡ offset block b d +ℤ size block b d)
+
 abbrev pub invariant-loop-d : goal.invariant-loop-d
 invariant-loop-d l = (l.d ≤ l.k) × Written (solid_at l.b) l.d (Own l.block l.b) l.initial.outline l.outline
 

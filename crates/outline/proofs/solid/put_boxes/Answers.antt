@@ -19,27 +19,24 @@ loop-b-init c = (omega arith, same_none _ _, λ b l. absurd (omega arith))
 
 pub put_box-requires : goal.put_box-requires
 put_box-requires c =
-    let n = c.before.before.before in (n.before.requires, omega (arith, n.boxes_of-n.ensures, c.before.loop-b-test.true))
+    (c.requires, omega (arith, c.boxes_of-n.ensures, c.loop-b-test.true))
 
 pub overflow_add-b : goal.overflow_add-b
-overflow_add-b c = omega (arith, c.before.before.loop-b-test.true)
+overflow_add-b c = omega (arith, c.loop-b-test.true)
 
 pub loop-b-smaller : goal.loop-b-smaller
-loop-b-smaller c = omega (arith, c.before.before.loop-b-test.true)
+loop-b-smaller c = omega (arith, c.loop-b-test.true)
 
 pub loop-b-preserved : goal.loop-b-preserved
 loop-b-preserved c =
-    let t = c.before.before in
-    let l = t.before in
-    let i = l.loop-b.invariant in
+    let i = c.loop-b.invariant in
     let e = c.put_box.ensures in (
-      omega (arith, t.loop-b-test.true),
+      omega (arith, c.loop-b-test.true),
       same_then i.1 e.0 (omega arith),
-      λ b k. ⊎_elim (λ q. rw q e.1) (λ m. box-kept l.before.before.requires.head e.0 b (omega arith) (i.2 b m))
-          (last_or (subst (λ (m : ℕ). b < m) (add-one l.loop-b.b) k)),
+      λ b k. ⊎_elim (λ q. rw q e.1) (λ m. box-kept c.requires.head e.0 b (omega arith) (i.2 b m))
+          (last_or (subst (λ (m : ℕ). b < m) (add-one c.loop-b.b) k)),
     )
 
 pub returns : goal.returns
 returns c =
-    let l = c.before in
-    (l.loop-b.invariant.1, λ b k. l.loop-b.invariant.2 b (omega (arith, l.before.boxes_of-n.ensures, c.loop-b-test.false)))
+    (c.loop-b.invariant.1, λ b k. c.loop-b.invariant.2 b (omega (arith, c.boxes_of-n.ensures, c.loop-b-test.false)))

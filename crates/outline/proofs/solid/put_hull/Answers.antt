@@ -12,10 +12,8 @@ use Rattle.outline.specs.Solids.{Spans}
 use Rattle.outline.proofs.Chains.{chained-kept}
 use Rattle.outline.proofs.Solids.{shape-few, boxes-kept}
 use Rattle.outline.proofs.Hulls.{Written, written_none, written-more, hull-of-spans}
+use Rattle.outline.proofs.solid.put_hull.Invariants.{Spanned}
 use Rattle.outline.proofs.solid.put_hull.Goals as goal
-
-abbrev Spanned : List ℤ → ℕ → ℕ → Extent → Type 0
-Spanned block s d x = Spans block s d (boxes block) x
 
 pub dims_of-k-requires : goal.dims_of-k-requires
 dims_of-k-requires c = c.requires.accepted.head
@@ -44,19 +42,19 @@ module _ (c : goal.In-loop-d) where
   start = hull.before.before
 
   abbrev d : ℕ
-  d = c.before.loop-d.d
+  d = c.loop-d.d
 
   below : d < dims start.args.block.now
-  below = omega (arith, hull.before.dims_of-k.ensures, c.loop-d-test.true)
+  below = omega (arith, hull.dims_of-k.ensures, c.loop-d-test.true)
 
   small : d < coordinates
   small = omega (arith, below, start.requires.accepted.head.few_dims)
 
 pub span-hull-requires : goal.span-hull-requires
 span-hull-requires c =
-    let i = c.before in
+    let i = c in
     let p = (start i).requires in
-    let same = i.before.loop-d.invariant.1.same in
+    let same = i.loop-d.invariant.1.same in
     let at = (hull i).hull_of.ensures in (
       record {
         accepted = p.accepted;
@@ -68,42 +66,37 @@ span-hull-requires c =
     )
 
 pub overflow_add-at-in-loop-d : goal.overflow_add-at-in-loop-d
-overflow_add-at-in-loop-d c = let i = c.before.before.before in omega (arith, few (start i), small i, (hull i).hull_of.ensures)
+overflow_add-at-in-loop-d c = let i = c.before.before in omega (arith, few (start i), small i, (hull i).hull_of.ensures)
 
 pub put_extent-requires : goal.put_extent-requires
 put_extent-requires c =
-    let i = c.before.before.before in omega (arith, few (start i), small i, (hull i).hull_of.ensures, c.put_extent-arg-1.given)
+    let i = c.before.before in omega (arith, few (start i), small i, (hull i).hull_of.ensures, c.put_extent-arg-1.given)
 
 pub overflow_add-d : goal.overflow_add-d
-overflow_add-d c = omega (arith, small c.before.before.before.before)
+overflow_add-d c = omega (arith, small c.before.before.before)
 
 pub loop-d-smaller : goal.loop-d-smaller
-loop-d-smaller c = omega (arith, c.before.before.before.before.loop-d-test.true)
+loop-d-smaller c = omega (arith, c.loop-d-test.true)
 
 pub loop-d-preserved : goal.loop-d-preserved
 loop-d-preserved c =
-    let x = c.before.before in
-    let i = x.before.before in
-    let l = i.before in
+    let i = c.before.before.before in
     let a = (start i).args in (
       omega (arith, i.loop-d-test.true),
-      subst (Written (solid_at (hull i).hull_of.result) (l.loop-d.d + 1) (Spanned a.block.now a.s) a.outline.now)
+      subst (Written (solid_at (hull i).hull_of.result) (i.loop-d.d + 1) (Spanned a.block.now a.s) a.outline.now)
           (sym c.put_extent.ensures)
-          (written-more l.loop-d.outline x.span-hull.result (small i)
-          (omega (arith, few (start i), small i, (hull i).hull_of.ensures, c.before.put_extent-arg-1.given))
-          l.loop-d.invariant.1 x.span-hull.ensures),
+          (written-more i.loop-d.outline c.span-hull.result (small i)
+          (omega (arith, few (start i), small i, (hull i).hull_of.ensures, c.put_extent-arg-1.given))
+          i.loop-d.invariant.1 c.span-hull.ensures),
     )
 
 pub returns : goal.returns
 returns c =
-    let l = c.before in
-    let h = l.before in
-    let k = h.before in
-    let a = k.before.args in
-    let p = k.before.requires in
-    let w = subst (λ (x : ℕ). Written (solid_at x) l.loop-d.d (Spanned a.block.now a.s) a.outline.now l.loop-d.outline)
-    h.hull_of.ensures l.loop-d.invariant.1 in (
+    let a = c.args in
+    let p = c.requires in
+    let w = subst (λ (x : ℕ). Written (solid_at x) c.loop-d.d (Spanned a.block.now a.s) a.outline.now c.loop-d.outline)
+    c.hull_of.ensures c.loop-d.invariant.1 in (
       w.same,
       hull-of-spans p.accepted p.shape (boxes-kept p.accepted.head w.same (omega arith) p.boxes_of)
-          (λ d m. w.is d (omega (arith, k.dims_of-k.ensures, c.loop-d-test.false))),
+          (λ d m. w.is d (omega (arith, c.dims_of-k.ensures, c.loop-d-test.false))),
     )

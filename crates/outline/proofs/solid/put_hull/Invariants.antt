@@ -14,6 +14,9 @@ use Rattle.outline.proofs.Solids.{shape-few, boxes-kept}
 use Rattle.outline.proofs.Hulls.{Written, written_none, written-more, hull-of-spans}
 use Rattle.outline.proofs.solid.put_hull.Given as goal
 
+abbrev pub Spanned : List ℤ → ℕ → ℕ → Extent → Type 0
+Spanned block s d x = Spans block s d (boxes block) x
+
 abbrev pub invariant-loop-d : goal.invariant-loop-d
 invariant-loop-d l = (l.d ≤ l.k) × Written l.at l.d (Spanned l.block l.s) l.initial.outline l.outline
 

@@ -15,11 +15,8 @@ use Rattle.outline.specs.Solids.{Hull}
 use Rattle.outline.proofs.Runs.{same_none, same_then}
 use Rattle.outline.proofs.Chains.{chained-kept}
 use Rattle.outline.proofs.Solids.{shape-few, boxes-kept, hull-kept}
+use Rattle.outline.proofs.solid.put_hulls.Invariants.{Put}
 use Rattle.outline.proofs.solid.put_hulls.Goals as goal
-
--- from the run o to o', in which the hulls of the shapes below s are put
-abbrev Put : List ℤ → List ℤ → ℕ → List ℤ → Type 0
-Put block o s o' = SameTo (solid_at (hull_of 0)) o o' × ((t : ℕ) → t < s → Boxed block t → Hull block o' t)
 
 pub boxes_of-n-requires : goal.boxes_of-n-requires
 boxes_of-n-requires c = c.requires.0.head
@@ -29,52 +26,44 @@ loop-s-init c = (omega arith, (same_none _ _, λ t k. absurd (omega arith)))
 
 pub first_of-requires : goal.first_of-requires
 first_of-requires c =
-    let l = c.before.before in
-    let p = l.before.before.requires in
-    (chained-kept p.0.head (omega arith) l.loop-s.invariant.1.0 p.1, omega (arith, c.before.loop-s-test.true))
+    let p = c.requires in
+    (chained-kept p.0.head (omega arith) c.loop-s.invariant.1.0 p.1, omega (arith, c.loop-s-test.true))
 
 pub put_hull-requires : goal.put_hull-requires
 put_hull-requires c =
-    let i = c.before in
-    let f = i.before in
-    let l = f.before.before.before in
-    let n = l.before in
-    let p = n.before.requires in
-    let same = l.loop-s.invariant.1.0 in
-    let below : f.first_of.result < boxes n.before.args.block.now = omega (arith, n.boxes_of-n.ensures, i.if-first_of-n.true) in
+    let p = c.requires in
+    let same = c.loop-s.invariant.1.0 in
+    let below : c.first_of.result < boxes c.args.block.now = omega (arith, c.boxes_of-n.ensures, c.if-first_of-n.true) in
     record {
       accepted = p.0;
       chained = chained-kept p.0.head (omega arith) same p.1;
       boxes_of = boxes-kept p.0.head same (omega arith) p.2;
-      shape = record { box = f.first_of.result; below = below; is = f.first_of.ensures.1 below };
+      shape = record { box = c.first_of.result; below = below; is = c.first_of.ensures.1 below };
     }
 
 pub overflow_add-s : goal.overflow_add-s
-overflow_add-s c = omega (arith, c.before.before.before.loop-s-test.true)
+overflow_add-s c = omega (arith, c.loop-s-test.true)
 
 pub loop-s-smaller : goal.loop-s-smaller
-loop-s-smaller c = omega (arith, c.before.before.before.loop-s-test.true)
+loop-s-smaller c = omega (arith, c.loop-s-test.true)
 
 pub loop-s-preserved : goal.loop-s-preserved
 loop-s-preserved c =
-    let f = c.before in
-    let l = f.before.before.before in
-    let n = l.before in
-    let s = l.loop-s.s in
-    let i = l.loop-s.invariant.1 in
-    let head = n.before.requires.0.head in
-    let block = n.before.args.block.now in (
-      omega (arith, f.before.before.loop-s-test.true),
+    let s = c.loop-s.s in
+    let i = c.loop-s.invariant.1 in
+    let head = c.requires.0.head in
+    let block = c.args.block.now in (
+      omega (arith, c.loop-s-test.true),
       ⊎_elim
-          (λ a. subst (Put block n.before.args.outline.now (s + 1)) (sym a.3) (
+          (λ a. subst (Put block c.args.outline.now (s + 1)) (sym a.3) (
             same_then i.0 a.2.ensures.0 (omega arith),
             λ t k b. ⊎_elim (λ q. rw q a.2.ensures.1) (λ m. hull-kept head a.2.ensures.0 t (omega arith) (i.1 t m b))
                 (last_or (subst (λ (m : ℕ). t < m) (add-one s) k)),
           ))
-          (λ a. subst (Put block n.before.args.outline.now (s + 1)) (sym a.1) (
+          (λ a. subst (Put block c.args.outline.now (s + 1)) (sym a.1) (
             i.0,
             λ t k b. ⊎_elim
-                (λ q. clash (rw q at b.is) (f.first_of.ensures.2 b.box (omega (arith, b.below, n.boxes_of-n.ensures, a.0.left))))
+                (λ q. clash (rw q at b.is) (c.first_of.ensures.2 b.box (omega (arith, b.below, c.boxes_of-n.ensures, a.0.left))))
                 (λ m. i.1 t m b)
                 (last_or (subst (λ (m : ℕ). t < m) (add-one s) k)),
           ))
@@ -83,5 +72,4 @@ loop-s-preserved c =
 
 pub returns : goal.returns
 returns c =
-    let l = c.before in
-    (l.loop-s.invariant.1.0, λ t b. l.loop-s.invariant.1.1 t (omega (arith, shape-few l.before.before.requires.0 b, c.loop-s-test.false)) b)
+    (c.loop-s.invariant.1.0, λ t b. c.loop-s.invariant.1.1 t (omega (arith, shape-few c.requires.0 b, c.loop-s-test.false)) b)

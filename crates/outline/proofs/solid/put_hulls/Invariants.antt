@@ -17,6 +17,10 @@ use Rattle.outline.proofs.Chains.{chained-kept}
 use Rattle.outline.proofs.Solids.{shape-few, boxes-kept, hull-kept}
 use Rattle.outline.proofs.solid.put_hulls.Given as goal
 
+-- from the run o to o', in which the hulls of the shapes below s are put
+abbrev pub Put : List ℤ → List ℤ → ℕ → List ℤ → Type 0
+Put block o s o' = SameTo (solid_at (hull_of 0)) o o' × ((t : ℕ) → t < s → Boxed block t → Hull block o' t)
+
 abbrev pub invariant-loop-s : goal.invariant-loop-s
 invariant-loop-s l = (l.s ≤ shapes_most) × Put l.block l.initial.outline l.s l.outline
 

@@ -20,7 +20,7 @@ pub overflow_sub-hull : goal.overflow_sub-hull
 overflow_sub-hull c = diff-fits (num 0) (num 20000) tt
 
 pub first_of-b-requires : goal.first_of-b-requires
-first_of-b-requires c = let p = c.before.requires.0 in (p.chained, shape-few p.accepted p.shape)
+first_of-b-requires c = let p = c.requires.0 in (p.chained, shape-few p.accepted p.shape)
 
 pub loop-b-init : goal.loop-b-init
 loop-b-init c = let e = c.first_of-b.ensures in (e.0, e.1, spans-none refl refl e.2)
@@ -33,11 +33,11 @@ module _ (c : goal.In-loop-b) where
   abbrev block : List ℤ
   block = start.args.block.now
 
-  below : c.before.loop-b.b < boxes block
-  below = omega (arith, c.before.before.before.boxes_of-n.ensures, c.loop-b-test.true)
+  below : c.loop-b.b < boxes block
+  below = omega (arith, c.boxes_of-n.ensures, c.loop-b-test.true)
 
-  is-of : is_of block c.before.loop-b.b start.args.s ≡ true
-  is-of = c.before.loop-b.invariant.1 below
+  is-of : is_of block c.loop-b.b start.args.s ≡ true
+  is-of = c.loop-b.invariant.1 below
 
 pub extent_of-requires : goal.extent_of-requires
 extent_of-requires c =
@@ -57,26 +57,22 @@ loop-b-smaller c = omega (arith, c.after-b.ensures.0, c.after-b.ensures.1)
 
 pub loop-b-preserved : goal.loop-b-preserved
 loop-b-preserved c =
-    let a = c.before in
-    let x = a.before in
-    let i = x.before in
+    let i = c.before.before.before in
     let p = (start i).requires.0 in
     let in-k = (start i).requires.1 in
-    let hull = i.before.loop-b.hull in
-    let box = p.boxes_of-n _ (below i) in
+    let hull = i.loop-b.hull in
+    let box = p.boxes_of _ (below i) in
     let e = c.after-b.ensures in (
       e.1,
       e.2,
-      spans-more p.accepted (below i) in-k (is-of i) i.before.loop-b.invariant.2
-          (a.around-hull.ensures.0 ∙ ap (min_z hull.start) (x.extent_of.ensures.0 ∙ box.starts _ in-k))
-          (a.around-hull.ensures.1 ∙ ap (max_z hull.end) (x.extent_of.ensures.1 ∙ box.ends _ in-k))
+      spans-more p.accepted (below i) in-k (is-of i) i.loop-b.invariant.2
+          (c.around-hull.ensures.0 ∙ ap (min_z hull.start) (c.extent_of.ensures.0 ∙ box.starts _ in-k))
+          (c.around-hull.ensures.1 ∙ ap (max_z hull.end) (c.extent_of.ensures.1 ∙ box.ends _ in-k))
           e.0 e.3,
     )
 
 pub returns : goal.returns
 returns c =
-    let l = c.before in
-    let n = l.before.before in
-    let a = n.before.args in
-    let q : l.loop-b.b ≡ boxes a.block.now = omega (arith, n.boxes_of-n.ensures, l.loop-b.invariant.0, c.loop-b-test.false) in
-    subst (λ (m : ℕ). Spans a.block.now a.s a.d m l.loop-b.hull) q l.loop-b.invariant.2
+    let a = c.args in
+    let q : c.loop-b.b ≡ boxes a.block.now = omega (arith, c.boxes_of-n.ensures, c.loop-b.invariant.0, c.loop-b-test.false) in
+    subst (λ (m : ℕ). Spans a.block.now a.s a.d m c.loop-b.hull) q c.loop-b.invariant.2

@@ -18,17 +18,14 @@ loop-r-init c = (omega arith, any-zero _)
 
 pub rule_forbids-requires : goal.rule_forbids-requires
 rule_forbids-requires c =
-    let n = c.before.before in
-    (n.before.requires, omega (arith, n.rules_of-n.ensures, c.loop-r-test.true))
+    (c.requires, omega (arith, c.rules_of-n.ensures, c.loop-r-test.true))
 
 pub returns-then-rule_forbids : goal.returns-then-rule_forbids
 unfolding forbidden_before
 returns-then-rule_forbids c =
-    let x = c.before in
-    let n = x.before.before.before in
-    let a = n.before.args in
+    let a = c.args in
     sym (any-true (rule_forbids_before a.block.now a.table.now a.i.number a.s a.p) _
-    (omega (arith, n.rules_of-n.ensures, x.before.loop-r-test.true)) (sym x.rule_forbids.ensures ∙ c.if-rule_forbids.true))
+    (omega (arith, c.rules_of-n.ensures, c.loop-r-test.true)) (sym c.rule_forbids.ensures ∙ c.if-rule_forbids.true))
 
 pub overflow_add-r : goal.overflow_add-r
 overflow_add-r c = omega arith
@@ -38,13 +35,10 @@ loop-r-smaller c = omega arith
 
 pub loop-r-preserved : goal.loop-r-preserved
 loop-r-preserved c =
-    let x = c.before in
-    (omega arith, none_more _ x.before.before.loop-r.invariant.1 (sym x.rule_forbids.ensures ∙ c.if-rule_forbids.false))
+    (omega arith, none_more _ c.loop-r.invariant.1 (sym c.rule_forbids.ensures ∙ c.if-rule_forbids.false))
 
 pub returns : goal.returns
 unfolding forbidden_before
 returns c =
-    let l = c.before in
-    let n = l.before in
-    let q : l.loop-r.r ≡ rules n.before.args.block.now = omega (arith, n.rules_of-n.ensures, c.loop-r-test.false) in
-    sym (rw q at l.loop-r.invariant.1)
+    let q : c.loop-r.r ≡ rules c.args.block.now = omega (arith, c.rules_of-n.ensures, c.loop-r-test.false) in
+    sym (rw q at c.loop-r.invariant.1)

@@ -19,25 +19,25 @@ names_row-requires c =
 
 pub returns-then-not-names_row : goal.returns-then-not-names_row
 unfolding named_forbids
-returns-then-not-names_row c = rw (sym c.before.names_row.ensures ∙ not-true c.if-not-names_row.true-raw)
+returns-then-not-names_row c = rw (sym c.names_row.ensures ∙ not-true c.if-not-names_row.true-raw)
 
 pub lowest_shape-t-requires : goal.lowest_shape-t-requires
-lowest_shape-t-requires c = let w = c.before.before.requires in (w.0.sheet.table, w.2)
+lowest_shape-t-requires c = let w = c.requires in (w.0.sheet.table, w.2)
 
 -- its lowest shape is the other row's one shape
-sole : (x : goal.After-lowest_shape-t) → let a = x.before.before.before.args in
+sole : (x : goal.After-lowest_shape-t) → let a = x.args in
     SoleShape a.block.now a.table.now a.j.number x.lowest_shape-t.result
 sole x =
-    let w = x.before.before.before.requires in
+    let w = x.requires in
     let sheet = w.0.sheet in
     let row : Row _ _ _ = record { from = w.2.from; upto = w.2.upto } in
     lowest-sole _ _ (row-fixed _ _ sheet.all_fixed row) x.lowest_shape-t.ensures
 
 -- what the code for the other row leans on
-versus : (x : goal.After-lowest_shape-t) → let a = x.before.before.before.args in
+versus : (x : goal.After-lowest_shape-t) → let a = x.args in
     Versus a.block.now a.table.now a.outline.now a.r a.s a.j a.p
 versus x =
-    let w = x.before.before.before.requires in
+    let w = x.requires in
     let sheet = w.0.sheet in
     record {
       at_point = record {
@@ -51,24 +51,23 @@ versus x =
       row = w.2;
     }
 
-other : (x : goal.After-lowest_shape-t) → Boxed x.before.before.before.args.block.now x.lowest_shape-t.result
+other : (x : goal.After-lowest_shape-t) → Boxed x.args.block.now x.lowest_shape-t.result
 other x =
-    let w = x.before.before.before.requires in
+    let w = x.requires in
     w.0.sheet.table.boxed _ _ w.2.from w.2.upto x.lowest_shape-t.ensures.held
 
 pub hulls_clash-requires : goal.hulls_clash-requires
 hulls_clash-requires c = (versus c, other c)
 
 -- the rule names the row
-named : (x : goal.After-lowest_shape-t) → let a = x.before.before.before.args in names_row a.block.now a.r.number a.j.number ≡ true
-named x = sym x.before.before.names_row.ensures ∙ not-false x.before.if-not-names_row.false-raw
+named : (x : goal.After-lowest_shape-t) → let a = x.args in names_row a.block.now a.r.number a.j.number ≡ true
+named x = sym x.names_row.ensures ∙ not-false x.if-not-names_row.false-raw
 
 pub returns-then-not-hulls_clash : goal.returns-then-not-hulls_clash
 unfolding named_forbids
 returns-then-not-hulls_clash c =
-    let h = c.before in
-    let x = h.before in
-    rw (named x) (sym (sym (sole-set _ _ (sole x) _ _ _ _) ∙ h.hulls_clash.ensures _ (not-true c.if-not-hulls_clash.true-raw)))
+    let x = c.before.before in
+    rw (named x) (sym (sym (sole-set _ _ (sole x) _ _ _ _) ∙ c.hulls_clash.ensures _ (not-true c.if-not-hulls_clash.true-raw)))
 
 pub shapes_region-x-requires : goal.shapes_region-x-requires
 shapes_region-x-requires c = let x = c.before.before in (versus x, other x)

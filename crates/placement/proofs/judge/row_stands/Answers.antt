@@ -31,43 +31,42 @@ module _ (c : After-holds) where
   abbrev top : goal.Start
   top = c.before.before.before.before.before
 
-  sole : SoleShape top.args.block.now top.args.table.now top.args.i.number found.before.lowest_shape-s.result
-  sole = lowest-sole _ _ (row-fixed _ _ top.requires.0.all_fixed (row top)) found.before.lowest_shape-s.ensures
+  sole : SoleShape top.args.block.now top.args.table.now top.args.i.number found.lowest_shape-s.result
+  sole = lowest-sole _ _ (row-fixed _ _ top.requires.0.all_fixed (row top)) found.lowest_shape-s.ensures
 
-  in_cut : in_area (axes top.args.block.now) c.before.cut_box-cut.result found.origin-p.result ≡ c.holds.result
+  in_cut : in_area (axes top.args.block.now) c.cut_box-cut.result found.origin-p.result ≡ c.holds.result
   in_cut =
-      ap (λ (n : ℕ). in_area n c.before.cut_box-cut.result found.origin-p.result) (sym c.before.before.axes_of-k.ensures)
+      ap (λ (n : ℕ). in_area n c.cut_box-cut.result found.origin-p.result) (sym c.axes_of-k.ensures)
       ∙ sym c.holds.ensures
 
   -- what the box test says
   boxed : (in_ranges top.args.block.now top.args.table.now top.args.i.number found.origin-p.result
-      && rooms_hold top.args.block.now top.args.i.number found.before.lowest_shape-s.result found.origin-p.result) ≡ c.holds.result
-  boxed = sym (c.before.cut_box-cut.ensures.is _) ∙ in_cut
+      && rooms_hold top.args.block.now top.args.i.number found.lowest_shape-s.result found.origin-p.result) ≡ c.holds.result
+  boxed = sym (c.cut_box-cut.ensures.is _) ∙ in_cut
 
 pub lowest_shape-s-requires : goal.lowest_shape-s-requires
 lowest_shape-s-requires c = (c.requires.0.table, c.requires.1)
 
 pub origin-p-requires : goal.origin-p-requires
-origin-p-requires c = let s = c.before in (s.requires.0.accepted, s.requires.0.table, s.requires.1)
+origin-p-requires c = (c.requires.0.accepted, c.requires.0.table, c.requires.1)
 
 pub axes_of-k-requires : goal.axes_of-k-requires
-axes_of-k-requires c = c.before.before.requires.0.accepted.head
+axes_of-k-requires c = c.requires.0.accepted.head
 
 pub cut_box-cut-requires : goal.cut_box-cut-requires
 cut_box-cut-requires c =
-    let s = c.before.before.before in
-    let w = s.requires.0 in
-    let i = s.requires.1 in
+    let w = c.requires.0 in
+    let i = c.requires.1 in
     record {
       accepted = w.accepted;
       table = w.table;
       outline = w.outline;
       row = i;
-      shape = w.table.boxed _ _ i.from i.upto c.before.before.lowest_shape-s.ensures.held;
+      shape = w.table.boxed _ _ i.from i.upto c.lowest_shape-s.ensures.held;
     }
 
 pub holds-requires : goal.holds-requires
-holds-requires c = omega (arith, c.before.axes_of-k.ensures, c.before.before.before.before.requires.0.accepted.head.few_axes)
+holds-requires c = omega (arith, c.axes_of-k.ensures, c.requires.0.accepted.head.few_axes)
 
 pub returns-then-not-holds : goal.returns-then-not-holds
 returns-then-not-holds c =
@@ -88,8 +87,8 @@ is_forbidden-requires c =
     record {
       sheet = w;
       row = i;
-      shape = w.table.boxed _ _ i.from i.upto (found h).before.lowest_shape-s.ensures.held;
-      near = in_small _ _ h.before.cut_box-cut.ensures.small (in_cut h ∙ not-false c.if-not-holds.false-raw);
+      shape = w.table.boxed _ _ i.from i.upto (found h).lowest_shape-s.ensures.held;
+      near = in_small _ _ h.cut_box-cut.ensures.small (in_cut h ∙ not-false c.if-not-holds.false-raw);
     }
 
 pub returns : goal.returns
@@ -97,10 +96,10 @@ returns c =
     let h = c.before.before in
     let s = top h in
     let w = s.requires.0 in
-    let inside = and-true (boxed h ∙ not-false c.before.if-not-holds.false-raw) in
+    let inside = and-true (boxed h ∙ not-false c.if-not-holds.false-raw) in
     record {
       clear = λ e. record {
-        shape = (found h).before.lowest_shape-s.result;
+        shape = (found h).lowest_shape-s.result;
         point = (found h).origin-p.result;
         sole = sole h;
         at = (found h).origin-p.ensures;

@@ -20,7 +20,7 @@ abbrev At-loop-m : Type 0
 At-loop-m = lts.At-loop tie.the-claims reads.Pre reads.Post goal.the-invariant-loop-m goal.the-decreases-loop-m
 
 pub overflow_sub-n : goal.overflow_sub-n
-overflow_sub-n c = c.before.requires.0.row.from
+overflow_sub-n c = c.requires.0.row.from
 
 pub loop-m-init : goal.loop-m-init
 loop-m-init c = (omega arith, any-zero _)
@@ -30,11 +30,11 @@ overflow_add-m c = omega arith
 
 pub row_place-j-requires : goal.row_place-j-requires
 row_place-j-requires c =
-    let w = c.before.before.before.requires.0 in
+    let w = c.requires.0 in
     (w.sheet.accepted.head, w.sheet.table.whole, up_next (omega (arith, w.row.upto, c.loop-m-test.true)))
 
 pub row_forbids-requires : goal.row_forbids-requires
-row_forbids-requires c = let w = c.before.before.before.before.requires in (w.0, w.1, c.row_place-j.ensures.0)
+row_forbids-requires c = let w = c.requires in (w.0, w.1, c.row_place-j.ensures.0)
 
 -- the row at hand, as the definition counts it
 module _ (c : After-row_forbids) where
@@ -42,16 +42,16 @@ module _ (c : After-row_forbids) where
   l = c.before.before.before
 
   abbrev test : ℕ → Bool
-  test = let a = l.before.before.args in named_forbids a.block.now a.table.now a.r.number a.i.number a.s a.p
+  test = let a = l.args in named_forbids a.block.now a.table.now a.r.number a.i.number a.s a.p
 
   answer : c.row_forbids.result ≡ test (l.loop-m.m + 1)
-  answer = c.row_forbids.ensures ∙ ap test c.before.row_place-j.ensures.1
+  answer = c.row_forbids.ensures ∙ ap test c.row_place-j.ensures.1
 
 pub returns-then-row_forbids : goal.returns-then-row_forbids
 unfolding before_forbids
 returns-then-row_forbids c =
     let x = c.before in
-    sym (upto-some (test x) _ (omega arith) (omega (arith, x.before.before.loop-m-test.true)) (sym (answer x) ∙ c.if-row_forbids.true))
+    sym (upto-some (test x) _ (omega arith) (omega (arith, x.loop-m-test.true)) (sym (answer x) ∙ c.if-row_forbids.true))
 
 pub overflow_add-m-in-loop-m : goal.overflow_add-m-in-loop-m
 overflow_add-m-in-loop-m c = omega arith
@@ -68,6 +68,5 @@ loop-m-preserved c =
 pub returns : goal.returns
 unfolding before_forbids
 returns c =
-    let l = c.before in
-    let q : l.loop-m.m ≡ l.before.before.args.i.number - 1 = omega (arith, c.loop-m-test.false) in
-    sym (rw q at l.loop-m.invariant.1)
+    let q : c.loop-m.m ≡ c.args.i.number - 1 = omega (arith, c.loop-m-test.false) in
+    sym (rw q at c.loop-m.invariant.1)

@@ -10,20 +10,18 @@ rule_place-rule-requires c = (c.requires.0.sheet.accepted.head, c.requires.1)
 
 pub is_non_overlap_of-requires : goal.is_non_overlap_of-requires
 is_non_overlap_of-requires c =
-    let w = c.before.requires.0 in
+    let w = c.requires.0 in
     (w.sheet.accepted, c.rule_place-rule.ensures.0, row-bit w.row)
 
 pub returns-then-not-is_non_overlap_of : goal.returns-then-not-is_non_overlap_of
 unfolding rule_forbids_before
 returns-then-not-is_non_overlap_of c =
-    let n = c.before in
-    rw (← n.before.rule_place-rule.ensures.1, sym n.is_non_overlap_of.ensures ∙ not-true c.if-not-is_non_overlap_of.true-raw)
+    rw (← c.rule_place-rule.ensures.1, sym c.is_non_overlap_of.ensures ∙ not-true c.if-not-is_non_overlap_of.true-raw)
 
 pub rows_forbid-requires : goal.rows_forbid-requires
-rows_forbid-requires c = let r = c.before.before in (r.before.requires.0, r.rule_place-rule.ensures.0)
+rows_forbid-requires c = (c.requires.0, c.rule_place-rule.ensures.0)
 
 pub returns : goal.returns
 unfolding rule_forbids_before
 returns c =
-    let n = c.before.before in
-    rw (← n.before.rule_place-rule.ensures.1, sym n.is_non_overlap_of.ensures ∙ not-false c.before.if-not-is_non_overlap_of.false-raw) c.rows_forbid.ensures
+    rw (← c.rule_place-rule.ensures.1, sym c.is_non_overlap_of.ensures ∙ not-false c.if-not-is_non_overlap_of.false-raw) c.rows_forbid.ensures

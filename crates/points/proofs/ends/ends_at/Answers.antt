@@ -1,6 +1,6 @@
 -- `points::ends::ends_at` meets its contract: so far the high ends of the dimensions passed are written. Assumes nothing.
 use mathlib.Core.Path.{◌≡◌, refl, ◌∙◌}
-use mathlib.Core.Bool.{true, false}
+use mathlib.Core.Bool.{true, false, cond}
 use Prim.Native.Nat.{ℕ, ◌+◌, ◌-◌, ◌≤◌, ◌<◌}
 use native.Mathlib.Omega.{arith}
 use lib.IntN.{pos}
@@ -11,6 +11,7 @@ use mir.Syntax.{w64}
 use mir.Val.{to_z}
 use Rattle.integers.specs.Words.{word}
 use Rattle.points.specs.Area.{coordinates, area_words}
+use Rattle.points.specs.Ends.{end_at}
 use Rattle.points.proofs.Runs.{written}
 use Rattle.points.proofs.ends.ends_at.Goals as goal
 
@@ -46,7 +47,7 @@ pub returns : goal.returns
 returns c =
     let w = c.before.loop-d in
     let s = c.before.before in
-    λ flip d h. elim flip [
-      | true ↦ w.invariant.3 d (omega (arith, c.loop-d-test.false))
-      | false ↦ w.invariant.2 d h
+    λ flip d h. elim flip as (λ f. end_at f d w.ends ≡ cond f s.args.high s.args.low) [
+      | true ↦ w.invariant.3 d (omega (arith, c.loop-d-test.false)) ∙ to_z-of_z s.ranges.high
+      | false ↦ w.invariant.2 d h ∙ to_z-of_z s.ranges.low
     ]

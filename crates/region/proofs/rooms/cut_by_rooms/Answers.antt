@@ -19,30 +19,25 @@ loop-r-init c = (omega arith, refl, cuts-zero _)
 
 pub cut_by_rule-requires : goal.cut_by_rule-requires
 cut_by_rule-requires c =
-    let l = c.before.before in
-    let n = l.before in
-    let s = n.before in
-    (s.requires.0, omega (arith, n.rules_of-n.ensures, c.before.loop-r-test.true), l.loop-r.invariant.1 ∙ s.requires.1)
+    (c.requires.0, omega (arith, c.rules_of-n.ensures, c.loop-r-test.true), c.loop-r.invariant.1 ∙ c.requires.1)
 
 pub overflow_add-r : goal.overflow_add-r
-overflow_add-r c = omega (arith, c.before.before.before.loop-r-test.true)
+overflow_add-r c = omega (arith, c.loop-r-test.true)
 
 pub loop-r-smaller : goal.loop-r-smaller
-loop-r-smaller c = omega (arith, c.before.before.before.loop-r-test.true)
+loop-r-smaller c = omega (arith, c.loop-r-test.true)
 
 pub loop-r-preserved : goal.loop-r-preserved
 loop-r-preserved c =
-    let t = c.before.before.before in
-    let i = t.before.loop-r.invariant in
-    (omega (arith, t.loop-r-test.true), c.ends-1.given ∙ i.1, cuts-more _ i.2 c.before.cut_by_rule.ensures)
+    let i = c.loop-r.invariant in
+    (omega (arith, c.loop-r-test.true), c.ends-1.given ∙ i.1, cuts-more _ i.2 c.cut_by_rule.ensures)
 
 pub shape_of-ends : goal.shape_of-ends
-shape_of-ends c = c.before.loop-r.invariant.1
+shape_of-ends c = c.loop-r.invariant.1
 
 pub returns : goal.returns
 unfolding rooms_hold room_holds shape_contained
 returns c =
-    let l = c.before in
-    let q : l.loop-r.r ≡ rules l.before.before.args.block.now =
-    omega (arith, l.before.rules_of-n.ensures, l.loop-r.invariant.0, c.loop-r-test.false) in
-    rw q at l.loop-r.invariant.2
+    let q : c.loop-r.r ≡ rules c.args.block.now =
+    omega (arith, c.rules_of-n.ensures, c.loop-r.invariant.0, c.loop-r-test.false) in
+    rw q at c.loop-r.invariant.2

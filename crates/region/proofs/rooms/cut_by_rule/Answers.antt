@@ -8,13 +8,9 @@ use Rattle.region.proofs.rooms.cut_by_rule.Goals as goal
 pub returns-then-is_room_of : goal.returns-then-is_room_of
 unfolding room_holds
 returns-then-is_room_of c =
-    let d = c.before in
-    let i = d.before.before in
-    let r = i.before in
-    rw (← r.before.rule_place-rule.ensures.1) (cuts-in (sym r.is_room_of.ensures ∙ i.if-is_room_of.true) d.cut_by_shape.ensures)
+    rw (← c.rule_place-rule.ensures.1) (cuts-in (sym c.is_room_of.ensures ∙ c.if-is_room_of.true) c.cut_by_shape.ensures)
 
 pub returns-else-is_room_of : goal.returns-else-is_room_of
 unfolding room_holds
 returns-else-is_room_of c =
-    let r = c.before in
-    rw (← r.before.rule_place-rule.ensures.1) (cuts-out _ (sym r.is_room_of.ensures ∙ c.if-is_room_of.false))
+    rw (← c.rule_place-rule.ensures.1) (cuts-out _ (sym c.is_room_of.ensures ∙ c.if-is_room_of.false))

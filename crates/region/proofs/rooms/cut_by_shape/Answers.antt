@@ -23,11 +23,11 @@ At-loop-d = lts.At-loop tie.the-claims reads.Pre reads.Post goal.the-invariant-l
 
 -- from the run u to w, cut by shape s in the dimensions below n that rule r names
 module _ (block o : List ℤ) (r s : ℕ) where
-  abbrev sideHolds : ℕ → List ℤ → Bool
-  sideHolds d p = names_dim block r d ⇒ side_contained block o r s d p
+  abbrev side_holds : ℕ → List ℤ → Bool
+  side_holds d p = names_dim block r d ⇒ side_contained block o r s d p
 
   abbrev CutTo : ℕ → List ℤ → List ℤ → Type 0
-  CutTo n u w = (length w ≡ length u) × Cuts (axes block) (area_of u) (area_of w) (λ p. all_below n (λ d. sideHolds d p))
+  CutTo n u w = (length w ≡ length u) × Cuts (axes block) (area_of u) (area_of w) (λ p. all_below n (λ d. side_holds d p))
 
 pub dims_of-k-requires : goal.dims_of-k-requires
 dims_of-k-requires c = c.requires.0.accepted.head
@@ -51,14 +51,14 @@ module _ (l : At-loop-d) where
       cuts-same (hull-sides block p.outline.boxes_of (p.outline.hulls _ p.shape) _) (rw q at l.loop-d.invariant.1.1)
 
 pub shape_of-ends-then-d-k : goal.shape_of-ends-then-d-k
-shape_of-ends-then-d-k c = c.before.before.loop-d.invariant.1.0
+shape_of-ends-then-d-k c = c.loop-d.invariant.1.0
 
 pub returns-then-d-k : goal.returns-then-d-k
-returns-then-d-k c = let l = c.before.before in whole l (c.if-d-k.true ∙ l.before.dims_of-k.ensures)
+returns-then-d-k c = let l = c.before.before in whole l (c.if-d-k.true ∙ l.dims_of-k.ensures)
 
 -- the dimension at hand is one of the sheet's
-below : (c : goal.Else-d-k) → c.before.before.loop-d.d < dims (block c.before.before)
-below c = let l = c.before.before in omega (arith, l.before.dims_of-k.ensures, l.loop-d.invariant.0, c.if-d-k.false)
+below : (c : goal.Else-d-k) → c.loop-d.d < dims (block c.before.before)
+below c = omega (arith, c.dims_of-k.ensures, c.loop-d.invariant.0, c.if-d-k.false)
 
 pub names_dim-requires : goal.names_dim-requires
 names_dim-requires c =
@@ -70,31 +70,29 @@ cut_by_side-requires c =
     let l = e.before.before in ((start l).requires.0, below e, l.loop-d.invariant.1.0 ∙ (start l).requires.1)
 
 pub overflow_add-d : goal.overflow_add-d
-overflow_add-d c = omega (arith, c.before.before.before.loop-d-test.true)
+overflow_add-d c = omega (arith, c.loop-d-test.true)
 
 pub loop-d-smaller : goal.loop-d-smaller
-loop-d-smaller c = let e = c.before.before in omega (arith, e.before.before.loop-d.invariant.0, e.if-d-k.false)
+loop-d-smaller c = omega (arith, c.loop-d.invariant.0, c.if-d-k.false)
 
 pub loop-d-preserved : goal.loop-d-preserved
 loop-d-preserved c =
-    let n = c.before in
-    let e = n.before in
-    let l = e.before.before.loop-d in
-    let a = (start e.before.before).args in
+    let l = c.loop-d in
+    let a = (start c.before.before.before.before).args in
     let P = CutTo a.block.now a.outline.now a.r.number a.s (l.d + 1) a.ends.now in (
-      omega (arith, l.invariant.0, e.if-d-k.false),
+      omega (arith, l.invariant.0, c.if-d-k.false),
       ⊎_elim
           (λ b. subst P (sym b.4)
-          (b.3.given ∙ l.invariant.1.0, cuts-more _ l.invariant.1.1 (cuts-in (sym n.names_dim.ensures ∙ b.0.taken) b.2.ensures)))
-          (λ b. subst P (sym b.1) (l.invariant.1.0, cuts-more _ l.invariant.1.1 (cuts-out _ (sym n.names_dim.ensures ∙ b.0.left))))
+          (b.3.given ∙ l.invariant.1.0, cuts-more _ l.invariant.1.1 (cuts-in (sym c.names_dim.ensures ∙ b.0.taken) b.2.ensures)))
+          (λ b. subst P (sym b.1) (l.invariant.1.0, cuts-more _ l.invariant.1.1 (cuts-out _ (sym c.names_dim.ensures ∙ b.0.left))))
           c.if-names_dim.branch,
     )
 
 pub shape_of-ends : goal.shape_of-ends
-shape_of-ends c = c.before.loop-d.invariant.1.0
+shape_of-ends c = c.loop-d.invariant.1.0
 
 pub returns : goal.returns
 returns c =
     let l = c.before in
     let few = (start l).requires.0.accepted.head.few_dims in
-    whole l (omega (arith, l.before.dims_of-k.ensures, l.loop-d.invariant.0, few, c.loop-d-test.false))
+    whole l (omega (arith, l.dims_of-k.ensures, l.loop-d.invariant.0, few, c.loop-d-test.false))

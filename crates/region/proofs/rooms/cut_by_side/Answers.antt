@@ -50,10 +50,10 @@ module _ (c : goal.After-extent_of-hull) where
   start = c.before.before
 
   start_is : c.extent_of-hull.result.start ≡ start_of (outline start) (hull start) start.args.d
-  start_is = c.extent_of-hull.ensures.0 ∙ ap (λ (x : ℕ). start_of (outline start) x start.args.d) c.before.hull_of.ensures
+  start_is = c.extent_of-hull.ensures.0 ∙ ap (λ (x : ℕ). start_of (outline start) x start.args.d) c.hull_of.ensures
 
   end_is : c.extent_of-hull.result.end ≡ end_of (outline start) (hull start) start.args.d
-  end_is = c.extent_of-hull.ensures.1 ∙ ap (λ (x : ℕ). end_of (outline start) x start.args.d) c.before.hull_of.ensures
+  end_is = c.extent_of-hull.ensures.1 ∙ ap (λ (x : ℕ). end_of (outline start) x start.args.d) c.hull_of.ensures
 
   start-within : Within far c.extent_of-hull.result.start
   start-within = within_by start_is ((the-hull start).modest.starts _ start.requires.1)
@@ -122,4 +122,4 @@ returns c =
     let s = start x in
     let from = sum_is (low l) tt (ap₂ ◌-ℤ◌ l.room_low.ensures (start_is x)) in
     let to = sum_is (high h) tt (ap₂ ◌-ℤ◌ h.room_high.ensures (end_is x)) in
-    cuts-same (λ p. ap₂ (λ (a b : ℤ). within a b (word p s.args.d)) from.0 to.0) (c.before.cut.ensures _ (axis (block s) s.requires.1))
+    cuts-same (λ p. ap₂ (λ (a b : ℤ). within a b (word p s.args.d)) from.0 to.0) (c.cut.ensures _ (axis (block s) s.requires.1))

@@ -7,11 +7,10 @@ is_containment-requires c = (c.requires.1, c.requires.0.kinds _ c.requires.1.bel
 
 pub names_row-requires : goal.names_row-requires
 names_row-requires c =
-    let s = c.before.before in
-    (s.requires.1, s.requires.0.row_sets _ s.requires.1.below, s.requires.2)
+    (c.requires.1, c.requires.0.row_sets _ c.requires.1.below, c.requires.2)
 
 pub returns-then-is_containment : goal.returns-then-is_containment
-returns-then-is_containment c = rw (sym c.before.before.is_containment.ensures ∙ c.before.if-is_containment.true) c.names_row.ensures
+returns-then-is_containment c = rw (sym c.is_containment.ensures ∙ c.if-is_containment.true) c.names_row.ensures
 
 pub returns : goal.returns
-returns c = rw (sym c.before.is_containment.ensures ∙ c.if-is_containment.false)
+returns c = rw (sym c.is_containment.ensures ∙ c.if-is_containment.false)

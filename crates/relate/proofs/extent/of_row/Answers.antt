@@ -14,41 +14,36 @@ pub overflow_sub-x : goal.overflow_sub-x
 overflow_sub-x c = diff-fits (num 0) (num 2000000) tt
 
 pub loop-b-init : goal.loop-b-init
-loop-b-init c = let i = c.before.args.i in (omega arith, start_none _ _ i _, end_none _ _ i _)
+loop-b-init c = let i = c.args.i in (omega arith, start_none _ _ i _, end_none _ _ i _)
 
-below : (c : goal.In-loop-b) → c.before.loop-b.b < boxes c.before.before.before.args.block.now
-below c = omega (arith, c.before.before.boxes_of-n.ensures, c.loop-b-test.true)
+below : (c : goal.In-loop-b) → c.loop-b.b < boxes c.args.block.now
+below c = omega (arith, c.boxes_of-n.ensures, c.loop-b-test.true)
 
 pub box_place-requires : goal.box_place-requires
-box_place-requires c = (c.before.before.before.requires.accepted.head, below c)
+box_place-requires c = (c.requires.accepted.head, below c)
 
 pub with_box-x-requires : goal.with_box-x-requires
-with_box-x-requires c = (c.before.before.before.before.requires, c.box_place.ensures.0)
+with_box-x-requires c = (c.requires, c.box_place.ensures.0)
 
 pub overflow_add-b : goal.overflow_add-b
-overflow_add-b c = let i = c.before.before in omega (arith, below i, i.before.before.before.requires.accepted.head.few_boxes)
+overflow_add-b c = let i = c.before.before in omega (arith, below i, i.requires.accepted.head.few_boxes)
 
 pub loop-b-smaller : goal.loop-b-smaller
 loop-b-smaller c = omega (arith, below c.before.before)
 
 pub loop-b-preserved : goal.loop-b-preserved
 loop-b-preserved c =
-    let p = c.before in
-    let i = p.before in
-    let s = i.before.before.before in
-    let x = i.before.loop-b.invariant in
-    let e = rw p.box_place.ensures.1 at c.with_box-x.ensures in (
+    let i = c.before.before in
+    let x = i.loop-b.invariant in
+    let e = rw c.box_place.ensures.1 at c.with_box-x.ensures in (
       omega (arith, below i),
-      start-more _ _ _ _ s.requires (below i) x.1 e.0,
-      end_more _ _ _ _ s.requires (below i) x.2 e.1,
+      start-more _ _ _ _ i.requires (below i) x.1 e.0,
+      end_more _ _ _ _ i.requires (below i) x.2 e.1,
     )
 
 pub returns : goal.returns
 returns c =
-    let l = c.before in
-    let n = l.before in
-    let s = n.before in
-    let q : l.loop-b.b ≡ boxes s.args.block.now = omega (arith, n.boxes_of-n.ensures, l.loop-b.invariant.0, c.loop-b-test.false) in
-    let x = l.loop-b.invariant in
-    let i = s.args.i in
-    (x.1 ∙ ap (start_to _ _ i _) q ∙ start-all _ _ i _ s.requires, x.2 ∙ ap (end_to _ _ i _) q ∙ end-all _ _ i _ s.requires)
+    let q : c.loop-b.b ≡ boxes c.args.block.now = omega (arith, c.boxes_of-n.ensures, c.loop-b.invariant.0, c.loop-b-test.false) in
+    let x = c.loop-b.invariant in
+    let i = c.args.i in
+    (x.1 ∙ ap (start_to _ _ i _) q ∙ start-all _ _ i _ c.requires, x.2 ∙ ap (end_to _ _ i _) q ∙ end-all _ _ i _ c.requires)

@@ -14,19 +14,18 @@ use Rattle.relate.proofs.extent.with_box.Goals as goal
 abbrev After-has_shape : Type 0
 After-has_shape = lts.After-has_shape tie.the-claims reads.Pre reads.Post
 
-owns : (c : After-has_shape) → let a = c.before.before.args in
+owns : (c : After-has_shape) → let a = c.args in
     c.has_shape.result ≡ of_row a.block.now a.table.now a.i.number a.b.number
 unfolding of_row
-owns c = c.has_shape.ensures ∙ ap (has_shape _ _ _) c.before.shape_number.ensures
+owns c = c.has_shape.ensures ∙ ap (has_shape _ _ _) c.shape_number.ensures
 
 pub shape_number-requires : goal.shape_number-requires
 shape_number-requires c = (c.requires.1, c.requires.0.accepted.shapes _ c.requires.1.below)
 
 pub has_shape-requires : goal.has_shape-requires
 has_shape-requires c =
-    let s = c.before in
-    let w = s.requires.0 in
-    let b = s.requires.1.below in
+    let w = c.requires.0 in
+    let b = c.requires.1.below in
     let u : UpTo 32 (nat (shape_of _ _)) = record { from = w.accepted.shapes_from _ b; upto = w.accepted.shapes_upto _ b } in
     (w.row, set-count w.table w.row.from w.row.upto, subst (UpTo 32) (sym c.shape_number.ensures) u)
 
@@ -34,16 +33,15 @@ pub returns-then-not-has_shape : goal.returns-then-not-has_shape
 returns-then-not-has_shape c = let e = sym (owns c.before) ∙ not-true c.if-not-has_shape.true-raw in (rw e, rw e)
 
 pub of_box-requires : goal.of_box-requires
-of_box-requires c = c.before.before.before.requires
+of_box-requires c = c.requires
 
 pub around-requires : goal.around-requires
 around-requires c = tt
 
 pub returns : goal.returns
 returns c =
-    let x = c.before in
-    let a = x.before.before.before.before.args in
-    let e = sym (owns x.before.before) ∙ not-false x.before.if-not-has_shape.false-raw in (
-      rw e (c.around.ensures.0 ∙ ap (min_z a.x.start) x.of_box.ensures.0),
-      rw e (c.around.ensures.1 ∙ ap (max_z a.x.end) x.of_box.ensures.1),
+    let a = c.args in
+    let e = sym (owns c.before.before.before) ∙ not-false c.if-not-has_shape.false-raw in (
+      rw e (c.around.ensures.0 ∙ ap (min_z a.x.start) c.of_box.ensures.0),
+      rw e (c.around.ensures.1 ∙ ap (max_z a.x.end) c.of_box.ensures.1),
     )

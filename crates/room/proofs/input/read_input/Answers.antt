@@ -20,9 +20,9 @@ counts xs h = (h, sym (length-take-le _ xs h))
 
 -- what one read put there lies in what was lent for it
 more-few : (c : After-read_some-x)
-    → c.before.before.before.loop-n.n + c.read_some-x.result.len ≤ length c.before.before.before.loop-n.text
+    → c.loop-n.n + c.read_some-x.result.len ≤ length c.loop-n.text
 more-few c =
-    let l = c.before.before.before.loop-n in
+    let l = c.loop-n in
     omega (arith, c.read_some-x.ensures, length-take (length l.text - l.n) (drop l.n l.text), length-drop l.n l.text)
 
 pub loop-n-init : goal.loop-n-init
@@ -32,7 +32,7 @@ pub read_some-x-requires : goal.read_some-x-requires
 read_some-x-requires c = tt
 
 pub returns-then-more-eq0 : goal.returns-then-more-eq0
-returns-then-more-eq0 c = counts _ (omega (arith, shape_of-text-then-more-eq0 c, c.before.before.before.before.before.before.loop-n.invariant.1))
+returns-then-more-eq0 c = counts _ (omega (arith, shape_of-text-then-more-eq0 c, c.loop-n.invariant.1))
 
 pub overflow_add-n : goal.overflow_add-n
 overflow_add-n c =
@@ -42,14 +42,14 @@ overflow_add-n c =
 pub loop-n-smaller : goal.loop-n-smaller
 loop-n-smaller c =
     let r = c.before.before.before in
-    let l = r.before.before.before.loop-n in
+    let l = r.loop-n in
     omega (arith, more-few r, l.invariant.0, c.if-more-eq0.false)
 
 pub loop-n-preserved : goal.loop-n-preserved
 loop-n-preserved c =
     let r = c.before.before.before in
-    let l = r.before.before.before.loop-n in
+    let l = r.loop-n in
     (search rules, omega (arith, more-few r, l.invariant.0))
 
 pub returns : goal.returns
-returns c = counts _ (omega (arith, c.before.loop-n.invariant.0, c.before.loop-n.invariant.1))
+returns c = counts _ (omega (arith, c.loop-n.invariant.0, c.loop-n.invariant.1))

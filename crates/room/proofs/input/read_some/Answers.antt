@@ -26,7 +26,7 @@ word-upto (negsuc k) f = omega ints
 -- a read that did not fail
 module _ (c : goal.Then-got-ge0) where
   abbrev got : ℤ
-  got = c.before.before.before.read-got.result
+  got = c.read-got.result
 
   fits : SFits w64 got
   fits = search rules
@@ -45,9 +45,8 @@ overflow_cast-result c = cast_ok (from-0 c) (word-upto (got c) (fits c)) tt tt
 
 pub returns-then-got-ge0 : goal.returns-then-got-ge0
 returns-then-got-ge0 c =
-    let r = c.before.before.before in
     rw (to_z-of_z (fits c))
-    (subst (λ (n : ℕ). nat_abs (got c) ≤ n) r.before.before.before.loop-tries.invariant (moved-few _ (got c) r.read-got.ensures (from-0 c)))
+    (subst (λ (n : ℕ). nat_abs (got c) ≤ n) c.loop-tries.invariant (moved-few _ (got c) c.read-got.ensures (from-0 c)))
 
 pub errno-requires : goal.errno-requires
 errno-requires c = tt

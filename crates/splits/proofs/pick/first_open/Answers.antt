@@ -25,24 +25,22 @@ pub rows_of-n-requires : goal.rows_of-n-requires
 rows_of-n-requires c = c.requires.0
 
 pub axes_of-k-requires : goal.axes_of-k-requires
-axes_of-k-requires c = c.before.requires.0
+axes_of-k-requires c = c.requires.0
 
 pub loop-row-init : goal.loop-row-init
 loop-row-init c = (omega arith, omega arith, λ i h l. absurd (omega arith))
 
 pub row_place-requires : goal.row_place-requires
 row_place-requires c =
-    let l = c.before in
-    let s = l.before.before.before in (
-      s.requires.0,
-      s.requires.1.whole,
-      record { from = l.loop-row.invariant.0; upto = omega (arith, c.loop-row-test.true, l.before.before.rows_of-n.ensures) },
+    (
+      c.requires.0,
+      c.requires.1.whole,
+      record { from = c.loop-row.invariant.0; upto = omega (arith, c.loop-row-test.true, c.rows_of-n.ensures) },
     )
 
 pub open_column-column-requires : goal.open_column-column-requires
 open_column-column-requires c =
-    let s = c.before.before.before.before.before in
-    record { table = s.requires.1; row = c.row_place.ensures.0 }
+    record { table = c.requires.1; row = c.row_place.ensures.0 }
 
 -- a column for which several values are open
 module _ (c : After-open_column-column) where
@@ -50,17 +48,16 @@ module _ (c : After-open_column-column) where
   s = c.before.before.before.before.before.before
 
   abbrev row : ℕ
-  row = c.before.before.before.loop-row.row
+  row = c.loop-row.row
 
   column : OpenColumn s.args.block.now s.args.table.now row c.open_column-column.result
-  column = rw c.before.row_place.ensures.1 at c.open_column-column.ensures
+  column = rw c.row_place.ensures.1 at c.open_column-column.ensures
 
   has : c.open_column-column.result ≤ axes s.args.block.now → HasNumber s.args.block.now s.args.table.now row c.open_column-column.result
   has few =
-      let l = c.before.before.before in
       record {
-        from = l.loop-row.invariant.0;
-        upto = omega (arith, c.before.before.loop-row-test.true, l.before.before.rows_of-n.ensures);
+        from = c.loop-row.invariant.0;
+        upto = omega (arith, c.loop-row-test.true, c.rows_of-n.ensures);
         few = few;
       }
 
@@ -68,45 +65,41 @@ pub number-at-requires : goal.number-at-requires
 number-at-requires c =
     let d = c.before in
     let few : d.open_column-column.result ≤ axes (s d).args.block.now =
-    omega (arith, c.if-column-k.true, d.before.before.before.before.axes_of-k.ensures) in
+    omega (arith, c.if-column-k.true, d.axes_of-k.ensures) in
     record { head = (s d).requires.0; table = (s d).requires.1; has = has d few }
 
 pub returns-then-column-k : goal.returns-then-column-k
 returns-then-column-k c =
     let d = c.before.before in
     let few : d.open_column-column.result ≤ axes (s d).args.block.now =
-    omega (arith, c.before.if-column-k.true, d.before.before.before.before.axes_of-k.ensures) in
+    omega (arith, c.if-column-k.true, d.axes_of-k.ensures) in
     record {
-      none = λ e. absurd (omega (arith, e, d.before.before.before.loop-row.invariant.0));
+      none = λ e. absurd (omega (arith, e, d.loop-row.invariant.0));
       some = λ _. split-least (has d few) ((column d).some few) (read_back c.number-at.ensures.0 c.number-at.type_inv);
     }
 
 pub overflow_add-row : goal.overflow_add-row
 overflow_add-row c =
     let d = c.before in
-    let l = d.before.before.before in
-    omega (arith, d.before.before.loop-row-test.true, l.before.before.rows_of-n.ensures, (s d).requires.1.whole.few_rows)
+    omega (arith, d.loop-row-test.true, d.rows_of-n.ensures, (s d).requires.1.whole.few_rows)
 
 pub loop-row-smaller : goal.loop-row-smaller
-loop-row-smaller c = omega (arith, c.before.before.before.loop-row-test.true)
+loop-row-smaller c = omega (arith, c.loop-row-test.true)
 
 pub loop-row-preserved : goal.loop-row-preserved
 loop-row-preserved c =
     let d = c.before in
-    let l = d.before.before.before in
-    let past = (column d).none (omega (arith, c.if-column-k.false, l.before.axes_of-k.ensures)) in (
+    let past = (column d).none (omega (arith, c.if-column-k.false, d.axes_of-k.ensures)) in (
       omega arith,
-      omega (arith, d.before.before.loop-row-test.true),
-      λ i h k. ⊎_elim (λ e. rw e past) (λ less. l.loop-row.invariant.2 i h less) (last_or (rw (add-one (row d)) at k)),
+      omega (arith, d.loop-row-test.true),
+      λ i h k. ⊎_elim (λ e. rw e past) (λ less. d.loop-row.invariant.2 i h less) (last_or (rw (add-one (row d)) at k)),
     )
 
 pub returns : goal.returns
 returns c =
-    let l = c.before in
-    let s = l.before.before.before in
     record {
       none = λ _.
-          all-fixed s.args.block.now s.args.table.now (λ i h k.
-          l.loop-row.invariant.2 i h (omega (arith, k, c.loop-row-test.false, l.before.before.rows_of-n.ensures)));
+          all-fixed c.args.block.now c.args.table.now (λ i h k.
+          c.loop-row.invariant.2 i h (omega (arith, k, c.loop-row-test.false, c.rows_of-n.ensures)));
       some = λ h. absurd (omega arith);
     }

@@ -9,29 +9,24 @@ pub axes_of-k-requires : goal.axes_of-k-requires
 axes_of-k-requires c = c.requires.0.row.head
 
 pub loop-column-init : goal.loop-column-init
-loop-column-init c = (omega arith, c.before.requires.2)
+loop-column-init c = (omega arith, c.requires.2)
 
 pub gain_in_column-best-requires : goal.gain_in_column-best-requires
 gain_in_column-best-requires c =
-    let l = c.before in
-    let s = l.before.before in
-    (s.requires.0, omega (arith, c.loop-column-test.true, l.before.axes_of-k.ensures), s.requires.1, l.loop-column.invariant.1)
+    (c.requires.0, omega (arith, c.loop-column-test.true, c.axes_of-k.ensures), c.requires.1, c.loop-column.invariant.1)
 
 pub overflow_add-column : goal.overflow_add-column
 overflow_add-column c =
-    let l = c.before.before in
-    omega (arith, c.before.loop-column-test.true, l.before.axes_of-k.ensures, l.before.before.requires.0.row.head.few_axes)
+    omega (arith, c.loop-column-test.true, c.axes_of-k.ensures, c.requires.0.row.head.few_axes)
 
 pub loop-column-smaller : goal.loop-column-smaller
-loop-column-smaller c = omega (arith, c.before.loop-column-test.true)
+loop-column-smaller c = omega (arith, c.loop-column-test.true)
 
 pub loop-column-preserved : goal.loop-column-preserved
-loop-column-preserved c = (omega (arith, c.before.loop-column-test.true), c.gain_in_column-best.ensures)
+loop-column-preserved c = (omega (arith, c.loop-column-test.true), c.gain_in_column-best.ensures)
 
 pub returns : goal.returns
 returns c =
-    let l = c.before in
-    let s = l.before.before in
-    let r = s.requires.0.row in
-    gains-row s.args.block.now s.args.table.now s.args.i.number s.requires.0.table r.from r.upto
-    (omega (arith, c.loop-column-test.false, l.before.axes_of-k.ensures)) l.loop-column.invariant.1
+    let r = c.requires.0.row in
+    gains-row c.args.block.now c.args.table.now c.args.i.number c.requires.0.table r.from r.upto
+    (omega (arith, c.loop-column-test.false, c.axes_of-k.ensures)) c.loop-column.invariant.1

@@ -21,8 +21,7 @@ Start = lts.Start tie.the-claims reads.Pre reads.Post
 
 pub returns-then-column-eq0 : goal.returns-then-column-eq0
 returns-then-column-eq0 c =
-    let s = c.before.before in
-    split-least s.requires.0.has s.requires.1 (read_back c.before.number-low.ensures.0 c.before.number-low.type_inv)
+    split-least c.requires.0.has c.requires.1 (read_back c.number-low.ensures.0 c.number-low.type_inv)
 
 -- the range's ends
 module _ (c : goal.After-high_of) where
@@ -32,22 +31,22 @@ module _ (c : goal.After-high_of) where
   abbrev top : ℤ
   top = high s.args.block.now s.args.table.now s.args.row (s.args.column - 1)
 
-  lo : to_z w64 (of_z w64 c.before.before.before.number-low.result)
+  lo : to_z w64 (of_z w64 c.number-low.result)
       ≡ number s.args.block.now s.args.table.now s.args.row s.args.column
-  lo = let n = c.before.before.before.number-low in read_back n.ensures.0 n.type_inv
+  lo = let n = c.number-low in read_back n.ensures.0 n.type_inv
 
   hi : to_z w64 (of_z w64 c.high_of.result) ≡ top
   hi =
       read_back
       (c.high_of.ensures
-      ∙ ap (λ (i : ℕ). high s.args.block.now s.args.table.now i (s.args.column - 1)) c.before.row_place-i.ensures.1)
+      ∙ ap (λ (i : ℕ). high s.args.block.now s.args.table.now i (s.args.column - 1)) c.row_place-i.ensures.1)
       c.high_of.type_inv
 
 pub halfway-requires : goal.halfway-requires
 halfway-requires c =
     let x = s c in
     let a = x.args in
-    let ne = c.before.before.if-column-eq0.false in
+    let ne = c.if-column-eq0.false in
     let open-top = high-open a.block.now a.table.now a.row x.requires.0.table a.column x.requires.0.has ne in (
       rw (lo c, hi c) (high-past a.block.now a.table.now a.row a.column ne x.requires.1),
       within_by (lo c) (number-near a.block.now a.table.now x.requires.0.table a.row a.column x.requires.0.has),
@@ -65,6 +64,6 @@ returns c =
       has = x.requires.0.has;
       from = omega (ints, e.0, lo h, back);
       next = top h;
-      opens = high-open a.block.now a.table.now a.row x.requires.0.table a.column x.requires.0.has h.before.before.if-column-eq0.false;
+      opens = high-open a.block.now a.table.now a.row x.requires.0.table a.column x.requires.0.has h.if-column-eq0.false;
       past = omega (ints, e.1, hi h, back);
     }

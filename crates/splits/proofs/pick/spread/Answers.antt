@@ -25,7 +25,7 @@ abbrev Start : Type 0
 Start = lts.Start tie.the-claims reads.Pre reads.Post
 
 pub has_one_shape-requires : goal.has_one_shape-requires
-has_one_shape-requires c = let o = c.before.requires.0 in (o.row, set-count o.table o.row.from o.row.upto)
+has_one_shape-requires c = let o = c.requires.0 in (o.row, set-count o.table o.row.from o.row.upto)
 
 -- a set
 module _ (s : Start) (e : s.args.column ≡ 0) where
@@ -41,8 +41,8 @@ module _ (s : Start) (e : s.args.column ≡ 0) where
 pub returns-then-has_one_shape : goal.returns-then-has_one_shape
 returns-then-has_one_shape c =
     let s = c.before.before.before in
-    let e : s.args.column ≡ 0 = c.before.before.if-column-eq0.true in
-    let one = sym c.before.has_one_shape.ensures ∙ c.if-has_one_shape.true in
+    let e : s.args.column ≡ 0 = c.if-column-eq0.true in
+    let one = sym c.has_one_shape.ensures ∙ c.if-has_one_shape.true in
     rw e record {
       few = omega arith;
       none = λ _. only-single (block s e) (table s e) s.requires.0.table s.args.i.number (has s e) one;
@@ -52,8 +52,8 @@ returns-then-has_one_shape c =
 pub returns-then-column-eq0 : goal.returns-then-column-eq0
 returns-then-column-eq0 c =
     let s = c.before.before.before in
-    let e : s.args.column ≡ 0 = c.before.before.if-column-eq0.true in
-    let several = sym c.before.has_one_shape.ensures ∙ c.if-has_one_shape.false in
+    let e : s.args.column ≡ 0 = c.if-column-eq0.true in
+    let several = sym c.has_one_shape.ensures ∙ c.if-has_one_shape.false in
     rw e record {
       few = omega arith;
       none = λ q. absurd (omega arith);
@@ -69,10 +69,10 @@ module _ (c : goal.After-high_of-high) where
   d = s.args.column - 1
 
   below : d < axes s.args.block.now
-  below = let ne = c.before.before.if-column-eq0.false in let l = s.requires.1 in omega arith
+  below = let ne = c.if-column-eq0.false in let l = s.requires.1 in omega arith
 
-  lo : to_z w64 (of_z w64 c.before.low_of-low.result) ≡ low s.args.block.now s.args.table.now s.args.i.number d
-  lo = read_back c.before.low_of-low.ensures c.before.low_of-low.type_inv
+  lo : to_z w64 (of_z w64 c.low_of-low.result) ≡ low s.args.block.now s.args.table.now s.args.i.number d
+  lo = read_back c.low_of-low.ensures c.low_of-low.type_inv
 
   hi : to_z w64 (of_z w64 c.high_of-high.result) ≡ high s.args.block.now s.args.table.now s.args.i.number d
   hi = read_back c.high_of-high.ensures c.high_of-high.type_inv
@@ -97,7 +97,7 @@ returns c =
     let x = low b t a.i.number (d h) in
     let y = high b t a.i.number (d h) in
     let across : x +ℤ pos r ≡ y = rw (lo h, hi h) at c.gap.ensures.0 in
-    let column : suc (d h) ≡ a.column = let ne = h.before.before.if-column-eq0.false in omega arith in
+    let column : suc (d h) ≡ a.column = let ne = h.if-column-eq0.false in omega arith in
     subst (λ (e : ℕ). Spread b t a.i.number e r) column record {
       few = let l = c.gap.ensures.1 in omega arith;
       none = λ q. still-single b t o.table a.i.number (d h) (omega (ints, across, q, sum x (pos r)));

@@ -33,8 +33,8 @@ At-loop-j = lts.At-loop tie.the-claims reads.Pre reads.Post goal.the-invariant-l
 -- the dimension is one of a point's
 dim-below : (c : goal.After-rotated-i) → c.rotated-i.result < coordinates
 dim-below c =
-    let a = c.before.before.before.args in
-    omega (arith, c.rotated-i.ensures, rotation-below a.k a.d (c.before.before.loop-j.j - 1))
+    let a = c.args in
+    omega (arith, c.rotated-i.ensures, rotation-below a.k a.d (c.loop-j.j - 1))
 
 -- once the jump point's word and the range's end are read
 module _ (c : goal.After-end-1) where
@@ -42,31 +42,31 @@ module _ (c : goal.After-end-1) where
   at-loop = c.before.before.before.before
 
   abbrev s : Sweep
-  s = c.before.before.before.before.loop-j.self
+  s = c.loop-j.self
 
   abbrev i : ℕ
-  i = c.before.before.rotated-i.result
+  i = c.rotated-i.result
 
   abbrev m : ℕ
-  m = c.before.before.before.before.loop-j.j - 1
+  m = c.loop-j.j - 1
 
   abbrev order : ℕ → ℕ
-  order = rotation c.before.before.before.before.before.args.k c.before.before.before.before.before.args.d
+  order = rotation c.args.k c.args.d
 
   abbrev low : List ℤ
-  low = c.before.before.before.before.before.args.low
+  low = c.args.low
 
   abbrev high : List ℤ
-  high = c.before.before.before.before.before.args.high
+  high = c.args.high
 
   up-read : to_z w64 (of_z w64 (word s.jump i)) ≡ word s.jump i
-  up-read = to_z-of_z (fits_word _ c.before.up-1.given)
+  up-read = to_z-of_z (fits_word _ c.up-1.given)
 
   end_read : to_z w64 (of_z w64 (word high i)) ≡ word high i
   end_read = to_z-of_z (fits_word _ c.end-1.given)
 
   end-near : Within limit (word high i)
-  end-near = c.before.before.before.before.before.requires.near i
+  end-near = c.requires.near i
 
   -- the sweep with both words written, as the machine holds them
   abbrev written : ℤ → Sweep
@@ -82,13 +82,13 @@ module _ (c : goal.After-end-1) where
 
   -- both turns of AdjustUp
   found : word s.jump i ≤ℤ word high i → written (to_z w64 (of_z w64 (word s.jump i))) ≡ advance order low high at-loop.loop-j.j s
-  found h = placed up-read ∙ sym (adjust-found order low high s at-loop.loop-j.j m i (omega arith) c.before.before.rotated-i.ensures h)
+  found h = placed up-read ∙ sym (adjust-found order low high s at-loop.loop-j.j m i (omega arith) c.rotated-i.ensures h)
 
   again : word high i <ℤ word s.jump i → {z : ℤ} → z ≡ word low i
       → advance order low high m (written z) ≡ advance order low high at-loop.loop-j.j s
   again h e =
       ap (advance order low high m) (placed e)
-      ∙ sym (adjust-again order low high s at-loop.loop-j.j m i (omega arith) c.before.before.rotated-i.ensures h)
+      ∙ sym (adjust-again order low high s at-loop.loop-j.j m i (omega arith) c.rotated-i.ensures h)
 
 pub loop-j-init : goal.loop-j-init
 loop-j-init c = refl
@@ -152,13 +152,13 @@ loop-j-smaller c = omega arith
 pub loop-j-preserved : goal.loop-j-preserved
 loop-j-preserved c =
     let e = c.before.before in
-    let test = c.before.if-up-end.false in
+    let test = c.if-up-end.false in
     let u = up-read e in
     let v = end_read e in
     again e (omega ints) (to_z-of_z (fits_word _ c.self-1.given)) ∙ (at-loop e).loop-j.invariant
 
 pub returns : goal.returns
 returns c =
-    let a = c.before.before.args in
-    let l = c.before.loop-j in
+    let a = c.args in
+    let l = c.loop-j in
     sym (adjust-none (rotation a.k a.d) a.low a.high l.self l.j (omega arith)) ∙ l.invariant

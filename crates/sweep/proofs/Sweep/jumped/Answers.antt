@@ -36,7 +36,7 @@ pub bounds-last-e : goal.bounds-last-e
 bounds-last-e c = omega arith
 
 pub overflow_add-last : goal.overflow_add-last
-overflow_add-last c = let b = c.before.before.before in near_fits (b.before.requires.near b.loop-e.e) _ tt
+overflow_add-last c = near_fits (c.requires.near c.loop-e.e) _ tt
 
 pub lesser-requires : goal.lesser-requires
 lesser-requires c = tt
@@ -55,17 +55,16 @@ loop-e-smaller c = omega arith
 
 pub loop-e-preserved : goal.loop-e-preserved
 loop-e-preserved c =
-    let b = c.before.before.before.before in
-    let jump = b.before.args.self.jump in
-    let last = b.before.args.last in
-    let e = b.loop-e.e in
-    let made = b.loop-e.invariant.2 in
-    let h : b.loop-e.e < length b.before.args.self.jump = search rules in
-    let g : b.loop-e.e < length b.before.args.last = search rules in
-    let now = to_z-of_z (fits_word (word b.loop-e.self.jump e) c.before.before.lesser-arg-1.given) in
-    let past = exact (bnd (b.before.requires.near e) +ʷ num 1) tt in (
-      b.loop-e.invariant.0,
-      b.loop-e.invariant.1,
+    let jump = c.args.self.jump in
+    let last = c.args.last in
+    let e = c.loop-e.e in
+    let made = c.loop-e.invariant.2 in
+    let h : c.loop-e.e < length c.args.self.jump = search rules in
+    let g : c.loop-e.e < length c.args.last = search rules in
+    let now = to_z-of_z (fits_word (word c.loop-e.self.jump e) c.lesser-arg-1.given) in
+    let past = exact (bnd (c.requires.near e) +ʷ num 1) tt in (
+      c.loop-e.invariant.0,
+      c.loop-e.invariant.1,
       made_more made h
           (to_z-of_z (fits_word _ c.lesser.type_inv) ∙ c.lesser.ensures
           ∙ ap₂ min_z (now ∙ made_word made h) (past ∙ sym (word-nexts last e g))
@@ -75,6 +74,6 @@ loop-e-preserved c =
 pub returns : goal.returns
 unfolding jumped_past
 returns c =
-    let l : length c.before.before.args.self.jump ≡ coordinates = search rules in
-    let h : length c.before.before.args.self.jump ≤ c.before.loop-e.e = omega arith in
-    rw (c.before.loop-e.invariant.0, c.before.loop-e.invariant.1, made_all c.before.loop-e.invariant.2 h)
+    let l : length c.args.self.jump ≡ coordinates = search rules in
+    let h : length c.args.self.jump ≤ c.loop-e.e = omega arith in
+    rw (c.loop-e.invariant.0, c.loop-e.invariant.1, made_all c.loop-e.invariant.2 h)

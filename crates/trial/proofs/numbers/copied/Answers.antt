@@ -4,6 +4,5 @@ use Rattle.trial.proofs.numbers.copied.Goals as goal
 
 pub slice_bounds-result-end : goal.slice_bounds-result-end
 slice_bounds-result-end c =
-    let d = c.before.before.before in
-    let h : length d.before.before.args.words.now ≤ length d.copy.new.to = search rules in
+    let h : length c.args.words.now ≤ length c.copy.new.to = search rules in
     sym (length-take-le _ _ h)

@@ -6,4 +6,4 @@ use Rattle.trial.proofs.numbers.count_of.Goals as goal
 
 pub overflow_cast-result : goal.overflow_cast-result
 overflow_cast-result c =
-    cast_ok {n = 1000000000000} {z = c.before.before.args.w} (omega ints) (omega ints) tt tt
+    cast_ok {n = 1000000000000} {z = c.args.w} (omega ints) (omega ints) tt tt

@@ -7,7 +7,6 @@ use Rattle.trial.proofs.numbers.difference.Goals as goal
 
 pub overflow_sub-result : goal.overflow_sub-result
 overflow_sub-result c =
-    let s = c.before.before.before.before in
-    let a : Within 1000000000000 s.args.a = omega ints in
-    let b : Within 1000000000000 s.args.b = omega ints in
+    let a : Within 1000000000000 c.args.a = omega ints in
+    let b : Within 1000000000000 c.args.b = omega ints in
     diff-fits (bnd a) (bnd b) tt

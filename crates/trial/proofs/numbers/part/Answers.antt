@@ -4,9 +4,7 @@ use Rattle.trial.proofs.numbers.part.Goals as goal
 
 pub offset_bounds-words-first : goal.offset_bounds-words-first
 offset_bounds-words-first c =
-    let p = c.before.before in
-    let s = p.before in
-    let low : s.args.first ≤ p.plus-end.result = search rules in
-    let high : p.plus-end.result ≤ length s.args.words.now = search rules in
-    let h : s.args.first ≤ length s.args.words.now = omega arith in
+    let low : c.args.first ≤ c.plus-end.result = search rules in
+    let high : c.plus-end.result ≤ length c.args.words.now = search rules in
+    let h : c.args.first ≤ length c.args.words.now = omega arith in
     search rules

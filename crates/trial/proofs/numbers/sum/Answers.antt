@@ -7,7 +7,6 @@ use Rattle.trial.proofs.numbers.sum.Goals as goal
 
 pub overflow_add-result : goal.overflow_add-result
 overflow_add-result c =
-    let s = c.before.before.before.before in
-    let a : Within 1000000000000 s.args.a = omega ints in
-    let b : Within 1000000000000 s.args.b = omega ints in
+    let a : Within 1000000000000 c.args.a = omega ints in
+    let b : Within 1000000000000 c.args.b = omega ints in
     sum_fits (bnd a) (bnd b) tt

@@ -1,8 +1,8 @@
 // Standard input, read to its end: a failed read is told from the end of the input, and an interrupted one is tried again.
 ghost use Rattle.std.specs.Prelude.{◌≤◌, length};
-ghost use Rattle.io.specs.Counts.{IsPrefixLen};
+ghost use Rattle.room.specs.Counts.{IsPrefixLen};
 
-use libc::{EINTR, STDIN_FILENO};
+use std::io::{ErrorKind, Read};
 
 // How often a read that a signal interrupts is tried before it counts as failed.
 const TRIES: usize = 1000000;
@@ -15,20 +15,23 @@ pub(crate) struct Input {
 }
 
 // One read: no byte at the end of the input. No contract can say which bytes are read.
-fn read_some(buf: &mut [u8]) -> Input
+fn read_some<R: Read>(reader: &mut R, buf: &mut [u8]) -> Input
     ensures { result.len ≤ length buf.old }
 {
     let mut tries = 0;
     while tries < TRIES {
-        let got = libc::read(STDIN_FILENO, buf);
-        if got >= 0 {
-            return Input {
-                len: got as usize,
-                whole: true,
-            };
-        }
-        if os::errno() != EINTR {
-            break;
+        match reader.read(buf) {
+            Ok(n) => {
+                return Input {
+                    len: n,
+                    whole: true,
+                };
+            }
+            Err(e) => {
+                if e.kind() != ErrorKind::Interrupted {
+                    break;
+                }
+            }
         }
         tries += 1;
     }
@@ -39,12 +42,12 @@ fn read_some(buf: &mut [u8]) -> Input
 }
 
 // Reads until the input ends, the run is full or a read fails.
-pub(crate) fn read_input(text: &mut [u8]) -> Input
+pub(crate) fn read_input<R: Read>(reader: &mut R, text: &mut [u8]) -> Input
     ensures { IsPrefixLen result.len text.new }
 {
     let mut n = 0;
     while n < text.len() {
-        let x = read_some(&mut text[n..]);
+        let x = read_some(reader, &mut text[n..]);
         let more = x.len;
         if more == 0 {
             return Input {

@@ -1,5 +1,6 @@
 // Standard input, read to its end: a failed read is told from the end of the input, and an interrupted one is tried again.
-ghost use Rattle.std.specs.Prelude.{◌≤◌, length};
+ghost use Rattle.std.specs.Prelude.{◌≡◌, ◌<◌, ◌≤◌, true, take, length};
+ghost use Rattle.std.specs.Io.KnownBytes.{Consumes, IsAtEnd};
 ghost use Rattle.room.specs.Counts.{IsPrefixLen};
 
 use std::io::{ErrorKind, Read};
@@ -14,9 +15,12 @@ pub(crate) struct Input {
     pub whole: bool,
 }
 
-// One read: no byte at the end of the input. No contract can say which bytes are read.
+// One read: no byte at the end of the input, and none where it failed. Which bytes a reader has left is known of some readers, but not of
+// standard input: no contract can say which bytes are read there.
 fn read_some<R: Read>(reader: &mut R, buf: &mut [u8]) -> Input
-    ensures { result.len ≤ length buf.old }
+    ensures len { result.len ≤ length buf.old }
+    ensures bytes { Consumes (R.remaining reader.old) (R.remaining reader.new) (take result.len buf.new) }
+    ensures end { result.whole ≡ true → result.len ≡ 0 → 0 < length buf.old → IsAtEnd (R.remaining reader.new) }
 {
     let mut tries = 0;
     while tries < TRIES {
@@ -41,9 +45,12 @@ fn read_some<R: Read>(reader: &mut R, buf: &mut [u8]) -> Input
     }
 }
 
-// Reads until the input ends, the run is full or a read fails.
+// Reads until the input ends, the run is full or a read fails. What a reader has left is known of some readers: of such a one the run has its
+// bytes in their order, and where no read failed and the run has room left, all of them.
 pub(crate) fn read_input<R: Read>(reader: &mut R, text: &mut [u8]) -> Input
-    ensures { IsPrefixLen result.len text.new }
+    ensures prefix_len { IsPrefixLen result.len text.new }
+    ensures bytes { Consumes (R.remaining reader.old) (R.remaining reader.new) (take result.len text.new) }
+    ensures end { result.whole ≡ true → result.len < length text.new → IsAtEnd (R.remaining reader.new) }
 {
     let mut n = 0;
     while n < text.len() {

@@ -6,7 +6,7 @@ use Prim.Native.Nat.{ℕ, ◌+◌, ◌*◌, ◌-◌, ◌≤◌, ◌<◌}
 use native.Mathlib.Omega.{arith}
 use native.Mathlib.Nat.{zero-add}
 use lib.IntN.{ℤ, pos}
-use lib.ListN.{length, take, drop, length-append}
+use lib.ListN.{take, drop, length-append}
 use Rattle.stores.proofs.Puts.{left-more, left-done, left-length, put_as, put-none}
 use Rattle.sheet.specs.Layout.{table_most}
 use Rattle.sheet.specs.Text.{shown, commas}
@@ -35,12 +35,12 @@ overflow_add-m c = omega arith
 
 pub overflow_add-start : goal.overflow_add-start
 overflow_add-start c =
-    let r = room c.loop-m.start c.args.len c.args.n c.loop-m.m (length c.args.table.now) c.loop-m-test.true c.loop-m.invariant.2 c.requires.table_short in
+    let r = room _ _ _ _ _ c.loop-m-test.true c.loop-m.invariant.2 c.requires.table_short in
     omega arith
 
 pub offset_bounds-table-start : goal.offset_bounds-table-start
 offset_bounds-table-start c =
-    let r = room c.loop-m.start c.args.len c.args.n c.loop-m.m (length c.args.table.now) c.loop-m-test.true c.loop-m.invariant.2 c.requires.table_short in
+    let r = room _ _ _ _ _ c.loop-m-test.true c.loop-m.invariant.2 c.requires.table_short in
     omega arith
 
 pub slice_bounds-put_row-count : goal.slice_bounds-put_row-count
@@ -48,17 +48,17 @@ slice_bounds-put_row-count c = omega arith
 
 pub slice_bounds-put_row-start : goal.slice_bounds-put_row-start
 slice_bounds-put_row-start c =
-    let r = room c.loop-m.start c.args.len c.args.n c.loop-m.m (length c.args.table.now) c.loop-m-test.true c.loop-m.invariant.2 c.requires.table_short in
+    let r = room _ _ _ _ _ c.loop-m-test.true c.loop-m.invariant.2 c.requires.table_short in
     omega arith
 
 pub slice_bounds-put_row-end : goal.slice_bounds-put_row-end
 slice_bounds-put_row-end c =
-    let r = room c.loop-m.start c.args.len c.args.n c.loop-m.m (length c.args.table.now) c.loop-m-test.true c.loop-m.invariant.2 c.requires.table_short in
+    let r = room _ _ _ _ _ c.loop-m-test.true c.loop-m.invariant.2 c.requires.table_short in
     omega arith
 
 pub put_row-p-requires : goal.put_row-p-requires
 put_row-p-requires c =
-    let r = room c.loop-m.start c.args.len c.args.n c.loop-m.m (length c.args.table.now) c.loop-m-test.true c.loop-m.invariant.2 c.requires.table_short in
+    let r = room _ _ _ _ _ c.loop-m-test.true c.loop-m.invariant.2 c.requires.table_short in
     let t = c.args.table.now in
     let words = row_words t c.loop-m.start c.args.len in
     let size = row-length t c.loop-m.start c.args.len r.fits in
@@ -66,7 +66,7 @@ put_row-p-requires c =
 
 pub overflow_add-start-in-loop-m : goal.overflow_add-start-in-loop-m
 overflow_add-start-in-loop-m c =
-    let r = room c.loop-m.start c.args.len c.args.n c.loop-m.m (length c.args.table.now) c.loop-m-test.true c.loop-m.invariant.2 c.requires.table_short in
+    let r = room _ _ _ _ _ c.loop-m-test.true c.loop-m.invariant.2 c.requires.table_short in
     omega arith
 
 pub overflow_add-m-in-loop-m : goal.overflow_add-m-in-loop-m
@@ -80,7 +80,7 @@ loop-m-preserved c =
     let loop = c.loop-m in
     let len = c.args.len in
     let t = c.args.table.now in
-    let r = room c.loop-m.start c.args.len c.args.n c.loop-m.m (length c.args.table.now) c.loop-m-test.true c.loop-m.invariant.2 c.requires.table_short in
+    let r = room _ _ _ _ _ c.loop-m-test.true c.loop-m.invariant.2 c.requires.table_short in
     let row = take len (drop loop.start t) in
     let put = put_as (ap (λ (x : List ℤ). shown (pos (loop.m + 1)) ++ commas x) (row_words t loop.start len)) c.put_row-p.ensures in
     let more = rows_more len c.args.n loop.m loop.start t c.loop-m-test.true in

@@ -113,7 +113,7 @@ records-long k ls w h g e =
     let block = pos k ∷ pos bs.count ∷ pos rs.count ∷ ws in
     subst LongBlock (ended_some os.rest (record { block = block; table = os.words }) w e)
     (λ l t.
-    refusal-from2 (block) t
+    refusal-from2 block t
     ∙ past 2 _ (head_in k bs.count rs.count ws h g)
     ∙ applies 2 _ (counts-out k bs.count rs.count ws g size (omega arith)))
 

@@ -122,12 +122,12 @@ module _ (text : List ℕ) (p : Parsed) (e : p ≡ parsed_of (read_text text)) w
       block_back = ap (take p.block_len) words.block ∙ take-placed block_most words.sheet.block words.block_length l
 
       -- g is what the code's check has found
-      pub read-rows : table_most < p.table_len → {g : ℤ} → g ≡ pos (refusal ((take p.block_len p.block)) [])
+      pub read-rows : table_most < p.table_len → {g : ℤ} → g ≡ pos (refusal (take p.block_len p.block) [])
           → refused_by g ≡ reading_of (reading text)
       read-rows m {g} f =
           let block = words.sheet.block in
           let long : table_most < length words.sheet.table = (let k = words.table_length in omega arith) in
-          ap refused_by (f ∙ ap (λ (b : List ℤ). pos (refusal (b) [])) block_back)
+          ap refused_by (f ∙ ap (λ (b : List ℤ). pos (refusal b [])) block_back)
           ∙ reading-refused text (refusal_is ∙ refusal-long block words.sheet.table long) (refusal-empty block)
 
       module _ (m : p.table_len ≤ table_most) where
@@ -135,13 +135,13 @@ module _ (text : List ℕ) (p : Parsed) (e : p ≡ parsed_of (read_text text)) w
         table-back = ap (take p.table_len) words.table ∙ take-placed table_most words.sheet.table words.table_length m
 
         abbrev found : ℕ
-        found = refusal ((take p.block_len p.block)) (take p.table_len p.table)
+        found = refusal (take p.block_len p.block) (take p.table_len p.table)
 
         same : refusal_text text ≡ found
         same =
             refusal_is
-            ∙ ap (λ (b : List ℤ). refusal (b) words.sheet.table) (sym block_back)
-            ∙ ap (refusal ((take p.block_len p.block))) (sym table-back)
+            ∙ ap (λ (b : List ℤ). refusal b words.sheet.table) (sym block_back)
+            ∙ ap (refusal (take p.block_len p.block)) (sym table-back)
 
         pub read-refused : {g : ℤ} → g ≡ pos found → 0 < found → refused_by g ≡ reading_of (reading text)
         read-refused {g} f k = ap refused_by f ∙ reading-refused text same k

@@ -11,8 +11,8 @@ use Rattle.bounds.proofs.bound_in.Goals as goal
 
 pub returns-in-At : goal.returns-in-At
 returns-in-At c =
-    let f : SFits w64 c.z-1.given.0.0 = search rules in
-    ap B.At (to_z-of_z f) ∙ answer_at c.z-1.given.0.0 refl (ap coordinate (sym c.z-1.given.1) ∙ c.extreme.ensures)
+    let f : SFits w64 c.in-At.z = search rules in
+    ap B.At (to_z-of_z f) ∙ answer_at c.in-At.z refl c.in-At.ensures
 
 pub returns-in-Nothing : goal.returns-in-Nothing
-returns-in-Nothing c = answer-none refl (ap coordinate (sym c.enum_told-1.given.1) ∙ c.extreme.ensures)
+returns-in-Nothing c = answer-none refl c.in-Nothing.ensures

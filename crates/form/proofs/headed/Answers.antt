@@ -1,5 +1,4 @@
 -- `form::headed` meets its contract. Assumes nothing.
-use borrow.Author.Rules.{rules}
 use mir.Facts.{to_z-of_z}
 use Rattle.line.specs.Answers.{placed}
 use Rattle.form.specs.Parsed.{parsed_of}

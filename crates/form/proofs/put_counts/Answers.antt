@@ -1,6 +1,5 @@
 -- `form::put_counts` meets its contract. Assumes nothing.
 use native.Mathlib.Omega.{arith}
-use borrow.Author.Rules.{rules}
 use Rattle.line.proofs.Numbers.{word-is}
 use Rattle.form.proofs.put_counts.Goals as goal
 

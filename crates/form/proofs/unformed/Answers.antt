@@ -1,5 +1,4 @@
 -- `form::unformed` meets its contract. Assumes nothing.
-use borrow.Author.Rules.{rules}
 use Rattle.form.specs.Parsed.{parsed_of}
 use Rattle.form.proofs.unformed.Goals as goal
 

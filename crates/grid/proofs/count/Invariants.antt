@@ -1,10 +1,7 @@
 -- `grid::count` meets its contract: c is how many of the cells before m are marked. Assumes nothing.
-use mathlib.Core.Path.{◌≡◌, sym, ap, ◌∙◌}
-use mathlib.Core.Logic.{⊎_elim}
+use mathlib.Core.Path.{◌≡◌}
 use Prim.Native.Nat.{◌-◌, ◌≤◌}
-use native.Mathlib.Omega.{arith}
-use Rattle.integers.proofs.Digits.{sum-zero}
-use Rattle.grid.proofs.Marks.{marked, count_yes, count_no}
+use Rattle.grid.proofs.Marks.{marked}
 use Rattle.grid.proofs.count.Given as goal
 
 abbrev pub invariant-loop-m : goal.invariant-loop-m

@@ -1,13 +1,6 @@
 -- `grid::line_start` meets its contract: start is the line's first cell in the dimensions before d. Assumes nothing.
-use mathlib.Core.Path.{◌≡◌, ap, ◌∙◌}
-use mathlib.Core.List.{List}
-use Prim.Native.Nat.{ℕ, ◌+◌, ◌-◌, ◌*◌, ◌≤◌, ◌<◌}
-use native.Mathlib.Nat.{mod-lt}
-use native.Mathlib.Omega.{arith}
-use Rattle.integers.specs.Below.{product_below}
-use Rattle.grid.specs.Grid.{cells_most, at, line_start}
-use Rattle.grid.proofs.Lines.{Upto, upto-one, upto-more}
-use Rattle.grid.proofs.Bricks.{steps-few, width_few, start-below}
+use Prim.Native.Nat.{◌-◌, ◌≤◌}
+use Rattle.grid.proofs.Lines.{Upto}
 use Rattle.grid.proofs.line_start.Given as goal
 
 abbrev pub invariant-loop-d : goal.invariant-loop-d

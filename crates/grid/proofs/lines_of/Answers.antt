@@ -1,6 +1,6 @@
 -- `grid::lines_of` meets its contract: n is the product of the sizes before d. Assumes nothing.
 use mathlib.Core.Path.{◌≡◌, sym, ap, ◌∙◌}
-use Prim.Native.Nat.{ℕ, ◌+◌, ◌-◌, ◌*◌, ◌≤◌}
+use Prim.Native.Nat.{ℕ, ◌+◌, ◌*◌}
 use native.Mathlib.Omega.{arith}
 use Rattle.grid.specs.Grid.{at, lines}
 use Rattle.grid.proofs.Lines.{lines-one, lines_more}

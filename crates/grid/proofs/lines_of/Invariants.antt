@@ -1,10 +1,7 @@
 -- `grid::lines_of` meets its contract: n is the product of the sizes before d. Assumes nothing.
-use mathlib.Core.Path.{◌≡◌, sym, ap, ◌∙◌}
-use Prim.Native.Nat.{ℕ, ◌+◌, ◌-◌, ◌*◌, ◌≤◌}
-use native.Mathlib.Omega.{arith}
-use Rattle.grid.specs.Grid.{at, lines}
-use Rattle.grid.proofs.Lines.{lines-one, lines_more}
-use Rattle.grid.proofs.Bricks.{lines-few}
+use mathlib.Core.Path.{◌≡◌}
+use Prim.Native.Nat.{◌-◌, ◌≤◌}
+use Rattle.grid.specs.Grid.{lines}
 use Rattle.grid.proofs.lines_of.Given as goal
 
 abbrev pub invariant-loop-d : goal.invariant-loop-d

@@ -1,14 +1,8 @@
 -- `grid::mark_brick` meets its contract: the brick's lines before j are marked. Assumes nothing.
-use mathlib.Core.Path.{◌≡◌, ap, ◌∙◌, subst}
-use mathlib.Core.Bool.{Bool, false, ◌||◌}
-use Prim.Native.Nat.{ℕ, ◌-◌, ◌≤◌}
-use native.Mathlib.Nat.{le_refl}
-use native.Mathlib.Omega.{arith}
-use lib.ListN.{get_or}
+use Prim.Native.Nat.{◌-◌, ◌≤◌}
 use Rattle.integers.specs.Below.{any_below}
-use Rattle.grid.specs.Grid.{at, in_line, lines}
-use Rattle.grid.proofs.Marks.{Added, no_line, line-more}
-use Rattle.grid.proofs.Bricks.{on_line, lines-few, line-fits, brick-lines}
+use Rattle.grid.proofs.Marks.{Added}
+use Rattle.grid.proofs.Bricks.{on_line}
 use Rattle.grid.proofs.mark_brick.Given as goal
 
 abbrev pub invariant-loop-j : goal.invariant-loop-j

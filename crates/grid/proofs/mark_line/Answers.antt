@@ -1,8 +1,8 @@
 -- `grid::mark_line` meets its contract: the first c cells of the line are marked. Assumes nothing.
 use mathlib.Core.Path.{◌≡◌, refl, subst}
-use Prim.Native.Nat.{ℕ, ◌-◌, ◌≤◌}
+use Prim.Native.Nat.{ℕ}
 use native.Mathlib.Omega.{arith}
-use lib.ListN.{length, length-set}
+use lib.ListN.{length-set}
 use Rattle.grid.specs.Grid.{in_line}
 use Rattle.grid.proofs.Marks.{Added, no_cell, cell-more}
 use Rattle.grid.proofs.mark_line.Goals as goal

@@ -1,10 +1,9 @@
 -- `grid::mark_line` meets its contract: the first c cells of the line are marked. Assumes nothing.
-use mathlib.Core.Path.{◌≡◌, refl, subst}
-use Prim.Native.Nat.{ℕ, ◌-◌, ◌≤◌}
-use native.Mathlib.Omega.{arith}
-use lib.ListN.{length, length-set}
+use mathlib.Core.Path.{◌≡◌}
+use Prim.Native.Nat.{◌-◌, ◌≤◌}
+use lib.ListN.{length}
 use Rattle.grid.specs.Grid.{in_line}
-use Rattle.grid.proofs.Marks.{Added, no_cell, cell-more}
+use Rattle.grid.proofs.Marks.{Added}
 use Rattle.grid.proofs.mark_line.Given as goal
 
 abbrev pub invariant-loop-c : goal.invariant-loop-c

@@ -125,7 +125,7 @@ module _ (c : After-to_first) where
   q = a (p e)
 
   abbrev lowest : List ℤ
-  lowest = c.to_first.new.table.1.0
+  lowest = c.to_first.new.best
 
   is-first : FirstLayout (block q) (t q) (some lowest)
   is-first = c.to_first.ensures

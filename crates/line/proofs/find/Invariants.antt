@@ -1,11 +1,8 @@
 -- `line::find` meets its contract. The invariant: a search from `i` on finds what one from `from` on does. Assumes nothing.
-use mathlib.Core.Path.{◌≡◌, refl}
-use Prim.Native.Nat.{◌+◌, ◌-◌, ◌≤◌}
-use native.Mathlib.Omega.{arith}
-use borrow.Author.Rules.{rules}
+use mathlib.Core.Path.{◌≡◌}
+use Prim.Native.Nat.{◌+◌, ◌-◌}
 use lib.ListN.{length, drop}
 use Rattle.line.specs.Parts.{until}
-use Rattle.line.proofs.Parts.{until_stop, until-more, until_end}
 use Rattle.line.proofs.find.Given as goal
 
 abbrev pub invariant-loop-i : goal.invariant-loop-i

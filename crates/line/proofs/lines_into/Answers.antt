@@ -1,7 +1,6 @@
 -- `line::lines_into` meets its contract. The invariant: the lines read so far and those from `p` on are the lines from `at` on.
 -- Assumes nothing.
 use mathlib.Core.Path.{◌≡◌, sym}
-use Prim.Native.Nat.{◌+◌, ◌-◌, ◌≤◌}
 use native.Mathlib.Omega.{arith}
 use borrow.Author.Rules.{rules}
 use lib.ListN.{length}
@@ -10,20 +9,11 @@ use Rattle.integers.proofs.Booleans.{not-true, not-false}
 use Rattle.stores.proofs.Puts.{left-length}
 use Rattle.sheet.specs.Layout.{record_most}
 use Rattle.line.proofs.Parts.{part-ends}
-use Rattle.line.proofs.Lines.{Walk, walk_first, walk_end, walk-stop, walk_more}
-use Rattle.line.proofs.lines_into.Lts as lts
-use Rattle.line.proofs.lines_into.Reads as reads
-use Rattle.line.proofs.lines_into.Tie as tie
+use Rattle.line.proofs.Lines.{walk_first, walk_end, walk-stop, walk_more}
 use Rattle.line.proofs.lines_into.Goals as goal
-
-abbrev After-read_line-l : Type 0
-After-read_line-l = lts.After-read_line tie.the-claims reads.Pre reads.Post goal.the-invariant-loop-p goal.the-decreases-loop-p
 
 pub loop-p-init : goal.loop-p-init
 loop-p-init c = walk_first _ _ _ _ _ _ c.requires
-
-ends : (c : goal.After-find-e) → c.find-e.result ≤ length c.args.s.now
-ends c = part-ends 10 c.args.s.now c.loop-p-test.true c.find-e.ensures
 
 pub slice_bounds-read_line-count : goal.slice_bounds-read_line-count
 slice_bounds-read_line-count c = omega arith
@@ -32,37 +22,32 @@ pub slice_bounds-read_line-start : goal.slice_bounds-read_line-start
 slice_bounds-read_line-start c = omega arith
 
 pub slice_bounds-read_line-end : goal.slice_bounds-read_line-end
-slice_bounds-read_line-end c = ends c
-
-long : (c : After-read_line-l) → c.args.n ≤ length c.read_line-l.result.words
-long c =
-    let k : length c.read_line-l.result.words ≡ record_most = search rules in omega (arith, c.requires.line_short)
+slice_bounds-read_line-end c = part-ends 10 c.args.s.now c.loop-p-test.true c.find-e.ensures
 
 pub slice_bounds-w-end : goal.slice_bounds-w-end
-slice_bounds-w-end c = long c.before.before.before.before
+slice_bounds-w-end c =
+    let k : length c.read_line-l.result.words ≡ record_most = search rules in
+    omega (arith, c.requires.line_short)
 
 pub slice_bounds-put_words-end : goal.slice_bounds-put_words-end
 slice_bounds-put_words-end c =
-    let read-line = c.before.before.before.before.before in
-    sym (length-take-le _ read-line.read_line-l.result.words (long read-line))
+    let k : length c.read_line-l.result.words ≡ record_most = search rules in
+    sym (length-take-le _ c.read_line-l.result.words (omega (arith, c.requires.line_short)))
 
 pub put_words-t-requires : goal.put_words-t-requires
 put_words-t-requires c =
-    let read-line = c.before.before.before.before.before in
-    rw (length-take-le _ read-line.read_line-l.result.words (long read-line))
-    (omega (arith, read-line.loop-p.invariant.short, read-line.requires.text_short, read-line.requires.line_short))
+    let k : length c.read_line-l.result.words ≡ record_most = search rules in
+    rw (length-take-le c.args.n c.read_line-l.result.words (omega (arith, c.requires.line_short))) (omega arith)
 
 pub overflow_add-c : goal.overflow_add-c
 overflow_add-c c =
     omega (arith, c.loop-p.invariant.few)
 
 pub overflow_add-p : goal.overflow_add-p
-overflow_add-p c = omega (arith, ends c.before.before.before.before.before.before.before.before.before)
+overflow_add-p c = omega (arith, part-ends 10 c.args.s.now c.loop-p-test.true c.find-e.ensures)
 
 pub loop-p-smaller : goal.loop-p-smaller
-loop-p-smaller c =
-    let find = c.before.before.before.before.before.before.before.before.before in
-    omega (arith, ends find, find.find-e.ensures)
+loop-p-smaller c = omega (arith, part-ends 10 c.args.s.now c.loop-p-test.true c.find-e.ensures)
 
 pub loop-p-preserved : goal.loop-p-preserved
 loop-p-preserved c =

@@ -1,16 +1,8 @@
 -- `line::lines_into` meets its contract. The invariant: the lines read so far and those from `p` on are the lines from `at` on.
 -- Assumes nothing.
-use mathlib.Core.Path.{◌≡◌, sym}
-use Prim.Native.Nat.{◌+◌, ◌-◌, ◌≤◌}
-use native.Mathlib.Omega.{arith}
-use borrow.Author.Rules.{rules}
+use Prim.Native.Nat.{◌+◌, ◌-◌}
 use lib.ListN.{length}
-use lib.Seq.{length-take-le}
-use Rattle.integers.proofs.Booleans.{not-true, not-false}
-use Rattle.stores.proofs.Puts.{left-length}
-use Rattle.sheet.specs.Layout.{record_most}
-use Rattle.line.proofs.Parts.{part-ends}
-use Rattle.line.proofs.Lines.{Walk, walk_first, walk_end, walk-stop, walk_more}
+use Rattle.line.proofs.Lines.{Walk}
 use Rattle.line.proofs.lines_into.Given as goal
 
 abbrev pub invariant-loop-p : goal.invariant-loop-p

@@ -1,18 +1,15 @@
 -- `line::read_fields` meets its contract. The invariant: the fields from `p` on, put from place `i` on, give the whole line.
 -- Assumes nothing.
-use mathlib.Core.Path.{◌≡◌, refl, sym, ◌∙◌}
-use Prim.Native.Nat.{◌-◌, ◌≤◌}
+use mathlib.Core.Path.{refl, sym, ◌∙◌}
 use native.Mathlib.Omega.{arith}
-use borrow.Author.Rules.{rules}
-use lib.ListN.{length}
+use mir.Syntax.{w64}
+use mir.Val.{SFits}
 use mir.Facts.{to_z-of_z}
 use Rattle.integers.proofs.Machine.{fits_word}
-use Rattle.sheet.specs.Layout.{record_most}
-use Rattle.line.specs.Parts.{parts_from, numbers_in}
-use Rattle.line.specs.Answers.{zeros, line_of}
+use Rattle.line.specs.Answers.{zeros}
 use Rattle.line.proofs.Parts.{part-ends}
 use Rattle.line.proofs.Numbers.{number-found, number-missing}
-use Rattle.line.proofs.Fields.{walked, walked-first, fields-few, fields-end, fields-over, fields-bad, fields-more}
+use Rattle.line.proofs.Fields.{walked-first, fields-few, fields-end, fields-over, fields-bad, fields-more}
 use Rattle.line.proofs.read_fields.Goals as goal
 
 pub loop-i-init : goal.loop-i-init
@@ -25,9 +22,6 @@ returns-then-p-s c =
     ∙ fields-few _ _ _ c.loop-i.w _ c.loop-i-test.true c.if-p-s.true
     ∙ c.loop-i.invariant.0
 
-ends : (c : goal.After-find-e) → c.find-e.result ≤ length c.args.s.now
-ends c = part-ends 44 c.args.s.now c.if-p-s.false c.find-e.ensures
-
 pub slice_bounds-read_number-count : goal.slice_bounds-read_number-count
 slice_bounds-read_number-count c = omega arith
 
@@ -35,11 +29,11 @@ pub slice_bounds-read_number-start : goal.slice_bounds-read_number-start
 slice_bounds-read_number-start c = omega arith
 
 pub slice_bounds-read_number-end : goal.slice_bounds-read_number-end
-slice_bounds-read_number-end c = ends c
+slice_bounds-read_number-end c = part-ends 44 c.args.s.now c.if-p-s.false c.find-e.ensures
 
 pub returns-in_default : goal.returns-in_default
 returns-in_default c =
-    let missing = number-missing _ (sym c.read_number.ensures ∙ c.enum_told-1.given.1) in
+    let missing = number-missing _ (sym c.read_number.ensures ∙ c.in_default.is) in
     c.no_line-in_default.ensures
     ∙ fields-bad _ _ _ c.loop-i.w _ _ c.if-p-s.false c.find-e.ensures c.loop-i-test.true missing
     ∙ c.loop-i.invariant.0
@@ -48,17 +42,19 @@ pub overflow_add-i : goal.overflow_add-i
 overflow_add-i c = omega arith
 
 pub overflow_add-p : goal.overflow_add-p
-overflow_add-p c = omega (arith, ends c.before.before.before.before.before.before.before.before)
+overflow_add-p c = omega (arith, part-ends 44 c.args.s.now c.if-p-s.false c.find-e.ensures)
 
 pub loop-i-smaller : goal.loop-i-smaller
 loop-i-smaller c = omega arith
 
 pub loop-i-preserved : goal.loop-i-preserved
 loop-i-preserved c =
-    let found = number-found _ (sym c.read_number.ensures ∙ c.v-1.given.1) in
-    let put = rw (to_z-of_z (fits_word _ c.known_told-1.given.0.1)) at c.put_word.ensures in
+    let found = number-found _ (sym c.read_number.ensures ∙ c.in-Found.is) in
     let more = fields-more _ _ _ c.loop-i.w _ _ c.if-p-s.false c.find-e.ensures c.loop-i-test.true _ found in
-    (rw put (more ∙ c.loop-i.invariant.0), omega arith, c.put_word.auto.0 ∙ c.loop-i.invariant.2)
+    let known = rw c.in-Found.is at c.read_number.type_inv in
+    let fits : SFits w64 c.in-Found.v = fits_word _ (omega arith) in
+    let put = rw (to_z-of_z fits) at c.put_word.ensures in
+    (rw put (more ∙ c.loop-i.invariant.0), omega arith, c.put_word.auto.out ∙ c.loop-i.invariant.2)
 
 pub returns-then-p-s-2 : goal.returns-then-p-s-2
 returns-then-p-s-2 c =

@@ -1,7 +1,6 @@
 -- `line::read_line` meets its contract: the first field ends before the first comma. Assumes nothing.
 use mathlib.Core.Path.{sym, ap, ◌∙◌}
 use native.Mathlib.Omega.{arith}
-use borrow.Author.Rules.{rules}
 use Rattle.line.specs.Answers.{line_of}
 use Rattle.line.proofs.Parts.{part-ends}
 use Rattle.line.proofs.Fields.{line-long, line_other, line-good}

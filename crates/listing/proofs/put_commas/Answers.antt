@@ -1,15 +1,13 @@
 -- `listing::put_commas` meets its contract. The invariant: the words from `i` on are left to put. Assumes nothing.
 use mathlib.Core.Path.{sym, ◌∙◌}
-use Prim.Native.Nat.{◌+◌, ◌*◌, ◌-◌, ◌≤◌}
 use native.Mathlib.Omega.{arith}
 use borrow.Author.Rules.{rules}
 use lib.IntN.{pos}
-use lib.ListN.{length, get_or, drop}
+use lib.ListN.{get_or}
 use mir.Syntax.{w64}
 use mir.Val.{SFits}
 use mir.Facts.{to_z-of_z}
-use Rattle.stores.proofs.Puts.{Left, left-all, left-more, left-done, left-length, put_as, put_one}
-use Rattle.sheet.specs.Text.{commas}
+use Rattle.stores.proofs.Puts.{left-all, left-more, left-done, left-length, put_as, put_one}
 use Rattle.listing.proofs.Sizes.{shown-few}
 use Rattle.listing.proofs.Rows.{commas-more, commas-end}
 use Rattle.listing.proofs.put_commas.Goals as goal
@@ -28,19 +26,17 @@ loop-i-smaller c = omega arith
 
 pub loop-i-preserved : goal.loop-i-preserved
 loop-i-preserved c =
-    let loop = c.before in
-    let words = loop.args.words.now in
-    let loop = loop.loop in
-    let f : SFits w64 (get_or words loop.i (pos 0)) = search rules in
+    let words = c.args.words.now in
+    let f : SFits w64 (get_or words c.loop-i.i (pos 0)) = search rules in
     let put = rw (to_z-of_z f) at c.put_field-p.ensures in
-    let size = shown-few (get_or words loop.i (pos 0)) in
-    (left-more loop.invariant.0 (commas-more words loop.i c.loop-i-test.true) put, omega (arith, put.past), omega arith)
+    let size = shown-few (get_or words c.loop-i.i (pos 0)) in
+    (left-more c.loop-i.invariant.0 (commas-more words c.loop-i.i c.loop-i-test.true) put, omega (arith, put.past), omega arith)
 
 pub overflow_add-result : goal.overflow_add-result
 overflow_add-result c = omega arith
 
 pub shape_of-out : goal.shape_of-out
-shape_of-out c = c.put_byte.auto.0 ∙ left-length c.loop-i.invariant.0
+shape_of-out c = c.put_byte.auto.out ∙ left-length c.loop-i.invariant.0
 
 pub returns : goal.returns
 returns c =

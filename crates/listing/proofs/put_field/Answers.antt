@@ -1,7 +1,6 @@
 -- `listing::put_field` meets its contract. Assumes nothing.
 use mir.Facts.{to_z-of_z}
 use Rattle.stores.proofs.Puts.{put_one, put-more}
-use borrow.Author.Rules.{rules}
 use Rattle.listing.proofs.put_field.Goals as goal
 
 pub returns : goal.returns

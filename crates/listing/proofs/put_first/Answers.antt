@@ -1,7 +1,6 @@
 -- `listing::put_first` meets its contract. Assumes nothing.
 use mir.Facts.{to_z-of_z}
 use Rattle.stores.proofs.Puts.{put-more}
-use borrow.Author.Rules.{rules}
 use Rattle.listing.proofs.put_first.Goals as goal
 
 pub returns : goal.returns

@@ -1,7 +1,6 @@
 -- `listing::put_refused` meets its contract. Assumes nothing.
 use mir.Facts.{to_z-of_z}
 use Rattle.sheet.specs.Text.{ascii}
-use borrow.Author.Rules.{rules}
 use Rattle.listing.proofs.put_refused.Goals as goal
 
 pub returns : goal.returns

@@ -3,7 +3,6 @@ use native.Mathlib.Omega.{arith}
 use lib.IntN.{pos}
 use Rattle.stores.proofs.Puts.{put-more}
 use Rattle.listing.proofs.Sizes.{shown-few}
-use borrow.Author.Rules.{rules}
 use Rattle.listing.proofs.put_row.Goals as goal
 
 pub put_commas-requires : goal.put_commas-requires

@@ -2,23 +2,17 @@
 -- Assumes nothing.
 use mathlib.Core.Path.{◌≡◌, sym, ap}
 use mathlib.Core.List.{List, ◌++◌}
-use Prim.Native.Nat.{ℕ, ◌+◌, ◌*◌, ◌-◌, ◌≤◌}
+use Prim.Native.Nat.{ℕ, ◌+◌, ◌*◌, ◌-◌, ◌≤◌, ◌<◌}
 use native.Mathlib.Omega.{arith}
 use native.Mathlib.Nat.{zero-add}
 use lib.IntN.{ℤ, pos}
-use lib.ListN.{length, take, drop, length-append}
-use Rattle.stores.proofs.Puts.{Left, left-more, left-done, left-length, put_as, put-none}
+use lib.ListN.{take, drop, length-append}
+use Rattle.stores.proofs.Puts.{left-more, left-done, left-length, put_as, put-none}
 use Rattle.sheet.specs.Layout.{table_most}
-use Rattle.sheet.specs.Text.{shown, commas, row_lines}
+use Rattle.sheet.specs.Text.{shown, commas}
 use Rattle.listing.proofs.Sizes.{shown-few, commas-few}
 use Rattle.listing.proofs.Rows.{rows-first, rows_more, rows_end, row_room, row_words, row-length}
-use Rattle.listing.proofs.put_rows.Lts as lts
-use Rattle.listing.proofs.put_rows.Reads as reads
-use Rattle.listing.proofs.put_rows.Tie as tie
 use Rattle.listing.proofs.put_rows.Goals as goal
-
-abbrev In-loop-m : Type 0
-In-loop-m = lts.In-loop tie.the-claims reads.Pre reads.Post goal.the-invariant-loop-m goal.the-decreases-loop-m
 
 pub loop-m-init : goal.loop-m-init
 loop-m-init c =
@@ -31,44 +25,49 @@ record Room (start len n m size : ℕ) : Type 0 where
   more : start + len + (n - (m + 1)) * len ≤ size
   few : size ≤ table_most
 
-room : (c : In-loop-m)
-    → let args = c.args in
-    Room c.loop-m.start args.len args.n c.loop-m.m (length args.table.now)
-room c =
-    let r =
-    row_room c.loop-m.start c.args.len c.args.n c.loop-m.m _ c.loop-m-test.true c.loop-m.invariant.2 in
-    record { fits = r.0; more = r.1; few = c.requires.table_short }
+room : (start len n m size : ℕ) → m < n → start + (n - m) * len ≤ size → size ≤ table_most → Room start len n m size
+room start len n m size h g k =
+    let r = row_room start len n m size h g in
+    record { fits = r.0; more = r.1; few = k }
 
 pub overflow_add-m : goal.overflow_add-m
 overflow_add-m c = omega arith
 
 pub overflow_add-start : goal.overflow_add-start
-overflow_add-start c = let r = room c.before in omega arith
+overflow_add-start c =
+    let r = room _ _ _ _ _ c.loop-m-test.true c.loop-m.invariant.2 c.requires.table_short in
+    omega arith
 
 pub offset_bounds-table-start : goal.offset_bounds-table-start
-offset_bounds-table-start c = let r = room c.before in omega arith
+offset_bounds-table-start c =
+    let r = room _ _ _ _ _ c.loop-m-test.true c.loop-m.invariant.2 c.requires.table_short in
+    omega arith
 
 pub slice_bounds-put_row-count : goal.slice_bounds-put_row-count
 slice_bounds-put_row-count c = omega arith
 
 pub slice_bounds-put_row-start : goal.slice_bounds-put_row-start
-slice_bounds-put_row-start c = let r = room c.before in omega arith
+slice_bounds-put_row-start c =
+    let r = room _ _ _ _ _ c.loop-m-test.true c.loop-m.invariant.2 c.requires.table_short in
+    omega arith
 
 pub slice_bounds-put_row-end : goal.slice_bounds-put_row-end
-slice_bounds-put_row-end c = let r = room c.before in omega arith
+slice_bounds-put_row-end c =
+    let r = room _ _ _ _ _ c.loop-m-test.true c.loop-m.invariant.2 c.requires.table_short in
+    omega arith
 
 pub put_row-p-requires : goal.put_row-p-requires
 put_row-p-requires c =
-    let loop-test = c.before.before in
-    let r = room loop-test in
-    let args = loop-test.args in
-    let t = args.table.now in
-    let words = row_words t loop-test.loop-m.start args.len in
-    let size = row-length t loop-test.loop-m.start args.len r.ranges in
-    (omega (arith, loop-test.loop-m.invariant.1, loop-test.requires.early, loop-test.requires.few), rw (words, size) (omega arith))
+    let r = room _ _ _ _ _ c.loop-m-test.true c.loop-m.invariant.2 c.requires.table_short in
+    let t = c.args.table.now in
+    let words = row_words t c.loop-m.start c.args.len in
+    let size = row-length t c.loop-m.start c.args.len r.fits in
+    (omega (arith, c.loop-m.invariant.1, c.requires.early, c.requires.few), rw (words, size) (omega arith))
 
 pub overflow_add-start-in-loop-m : goal.overflow_add-start-in-loop-m
-overflow_add-start-in-loop-m c = let r = room c.before.before.before.before.before in omega arith
+overflow_add-start-in-loop-m c =
+    let r = room _ _ _ _ _ c.loop-m-test.true c.loop-m.invariant.2 c.requires.table_short in
+    omega arith
 
 pub overflow_add-m-in-loop-m : goal.overflow_add-m-in-loop-m
 overflow_add-m-in-loop-m c = omega arith
@@ -78,17 +77,14 @@ loop-m-smaller c = omega arith
 
 pub loop-m-preserved : goal.loop-m-preserved
 loop-m-preserved c =
-    let loop-test = c.before.before.before in
-    let loop = loop-test.before in
-    let args = loop.args in
-    let loop = loop.loop in
-    let t = args.table.now in
-    let r = room loop-test in
-    let row = take args.len (drop loop.start t) in
-    let put =
-    put_as (ap (λ (x : List ℤ). shown (pos (loop.m + 1)) ++ commas x) (row_words t loop.start args.len)) c.put_row-p.ensures in
-    let more = rows_more args.len args.n loop.m loop.start t loop-test.loop-m-test.true in
-    let size = row-length t loop.start args.len r.ranges in
+    let loop = c.loop-m in
+    let len = c.args.len in
+    let t = c.args.table.now in
+    let r = room _ _ _ _ _ c.loop-m-test.true c.loop-m.invariant.2 c.requires.table_short in
+    let row = take len (drop loop.start t) in
+    let put = put_as (ap (λ (x : List ℤ). shown (pos (loop.m + 1)) ++ commas x) (row_words t loop.start len)) c.put_row-p.ensures in
+    let more = rows_more len c.args.n loop.m loop.start t c.loop-m-test.true in
+    let size = row-length t loop.start len r.fits in
     let a = shown-few (pos (loop.m + 1)) in
     let b = commas-few row in
     let e = length-append (shown (pos (loop.m + 1))) (commas row) in

@@ -1,17 +1,9 @@
 -- `listing::put_rows` meets its contract. The invariant: the rows from `m` on, whose words start at `start`, are left to put.
 -- Assumes nothing.
-use mathlib.Core.Path.{◌≡◌, sym, ap}
-use mathlib.Core.List.{List, ◌++◌}
-use Prim.Native.Nat.{ℕ, ◌+◌, ◌*◌, ◌-◌, ◌≤◌}
-use native.Mathlib.Omega.{arith}
-use native.Mathlib.Nat.{zero-add}
-use lib.IntN.{ℤ, pos}
-use lib.ListN.{length, take, drop, length-append}
-use Rattle.stores.proofs.Puts.{Left, left-more, left-done, left-length, put_as, put-none}
-use Rattle.sheet.specs.Layout.{table_most}
-use Rattle.sheet.specs.Text.{shown, commas, row_lines}
-use Rattle.listing.proofs.Sizes.{shown-few, commas-few}
-use Rattle.listing.proofs.Rows.{rows-first, rows_more, rows_end, row_room, row_words, row-length}
+use Prim.Native.Nat.{◌+◌, ◌*◌, ◌-◌, ◌≤◌}
+use lib.ListN.{length, drop}
+use Rattle.stores.proofs.Puts.{Left}
+use Rattle.sheet.specs.Text.{row_lines}
 use Rattle.listing.proofs.put_rows.Given as goal
 
 abbrev pub invariant-loop-m : goal.invariant-loop-m

@@ -9,7 +9,6 @@ use lib.Seq.{length-take-le, take_all}
 use Rattle.stores.proofs.Puts.{put_as}
 use Rattle.sheet.specs.Layout.{table_most}
 use Rattle.sheet.specs.Text.{printed_for}
-use borrow.Author.Rules.{rules}
 use Rattle.listing.proofs.put_settled.Lts as lts
 use Rattle.listing.proofs.put_settled.Reads as reads
 use Rattle.listing.proofs.put_settled.Tie as tie

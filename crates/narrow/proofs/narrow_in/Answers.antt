@@ -28,12 +28,12 @@ module _ (c : After-narrow_row) where
 
 pub returns-in-NoPlace : goal.returns-in-NoPlace
 unfolding narrowing
-returns-in-NoPlace c = let r = c.before.before.before.before in narrow_step (first r) (found r) r.narrow_row.ensures c.enum_told-1.given.1
+returns-in-NoPlace c = narrow_step c.args.table.now (narrow_of c.args.block.now c.args.table.now c.args.i.number) c.narrow_row.ensures c.in-NoPlace.is
 
 pub returns-in-Still : goal.returns-in-Still
 unfolding narrowing
-returns-in-Still c = let r = c.before.before.before.before in narrow_step (first r) (found r) r.narrow_row.ensures c.enum_told-in-Still-1.given.1
+returns-in-Still c = narrow_step c.args.table.now (narrow_of c.args.block.now c.args.table.now c.args.i.number) c.narrow_row.ensures c.in-Still.is
 
 pub returns-in-Moved : goal.returns-in-Moved
 unfolding narrowing
-returns-in-Moved c = let r = c.before.before.before.before in narrow_step (first r) (found r) r.narrow_row.ensures c.enum_told-in-Moved-1.given.1
+returns-in-Moved c = narrow_step c.args.table.now (narrow_of c.args.block.now c.args.table.now c.args.i.number) c.narrow_row.ensures c.in-Moved.is

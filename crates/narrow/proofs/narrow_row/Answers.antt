@@ -51,7 +51,7 @@ module _ (h : After-kept_shapes-shapes) where
   s = h.before.before.before.before.before
 
   abbrev ends : List ℤ
-  ends = h.kept_shapes-shapes.new.table.1.1.1.1.0
+  ends = h.kept_shapes-shapes.new.ends
 
   no_place : h.kept_shapes-shapes.result ≡ 0 → found s ≡ none
   no_place e =

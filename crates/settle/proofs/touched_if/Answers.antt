@@ -55,5 +55,5 @@ pub returns : goal.returns
 returns c =
     let a = c.args in
     touched-so
-    (subst (λ (r : ℕ). Touched a.n a.due.now (Spared a.block.now a.table.now a.i.number r) c.touched_by.new.table.1.1.0)
+    (subst (λ (r : ℕ). Touched a.n a.due.now (Spared a.block.now a.table.now a.i.number r) c.touched_by.new.due)
     c.rule_place-rule.ensures.1 c.touched_by.ensures) (λ m h spared k. spared)

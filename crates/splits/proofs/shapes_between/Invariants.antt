@@ -13,7 +13,7 @@ use Rattle.splits.specs.Splits.{is_between}
 use Rattle.splits.proofs.shapes_between.Given as goal
 
 abbrev pub invariant-loop-s : goal.invariant-loop-s
-invariant-loop-s l = (l.s ≤ 32) × (l.shapes ≡ set_of l.s (is_between l.set (to_z w64 l.from) (to_z w64 l.to)))
+invariant-loop-s l = (l.s ≤ 32) × (l.shapes ≡ set_of l.s (is_between l.set l.from l.to))
 
 abbrev pub decreases-loop-s : goal.decreases-loop-s
 decreases-loop-s l = 32 - l.s

@@ -1,5 +1,4 @@
 -- `stores::put_byte` meets its contract. Assumes nothing.
-use borrow.Author.Rules.{rules}
 use Rattle.stores.proofs.Stores.{set_past}
 use Rattle.stores.proofs.put_byte.Goals as goal
 

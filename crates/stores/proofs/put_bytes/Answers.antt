@@ -1,9 +1,6 @@
 -- `stores::put_bytes` meets its contract. The invariant: the bytes from `i` on are left to put. Assumes nothing.
-use Prim.Native.Nat.{◌+◌, ◌-◌, ◌≤◌}
 use native.Mathlib.Omega.{arith}
-use borrow.Author.Rules.{rules}
-use lib.ListN.{length, drop}
-use Rattle.stores.proofs.Puts.{Left, left-first, left-next, left-last, left-length}
+use Rattle.stores.proofs.Puts.{left-first, left-next, left-last, left-length}
 use Rattle.stores.proofs.put_bytes.Goals as goal
 
 pub loop-i-init : goal.loop-i-init

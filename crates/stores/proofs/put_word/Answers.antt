@@ -1,5 +1,4 @@
 -- `stores::put_word` meets its contract. Assumes nothing.
-use borrow.Author.Rules.{rules}
 use Rattle.stores.proofs.Stores.{set_past}
 use Rattle.stores.proofs.put_word.Goals as goal
 

@@ -1,13 +1,7 @@
 -- `stores::put_words` meets its contract. The invariant: the words from `i` on are left to put. Assumes nothing.
 use Prim.Native.Nat.{◌+◌, ◌-◌, ◌≤◌}
-use native.Mathlib.Omega.{arith}
-use borrow.Author.Rules.{rules}
-use lib.IntN.{pos}
-use lib.ListN.{length, get_or, drop}
-use mir.Syntax.{w64}
-use mir.Val.{SFits}
-use mir.Facts.{to_z-of_z}
-use Rattle.stores.proofs.Puts.{Left, left-first, left-next, left-last, left-length}
+use lib.ListN.{length, drop}
+use Rattle.stores.proofs.Puts.{Left}
 use Rattle.stores.proofs.put_words.Given as goal
 
 abbrev pub invariant-loop-i : goal.invariant-loop-i

@@ -10,6 +10,7 @@ use Rattle.integers.specs.Words.{list_below}
 use Rattle.sweep.proofs.Rotations.{rotation-out, rotation-below}
 use Rattle.sweep.proofs.Table.{reduced, table-rule, reduced-rotation}
 use Rattle.sweep.proofs.rotated.Goals as goal
+use Rattle.sweep.proofs.rotated.Goals.{else-k-le-COORDINATES-via-then-k-le-COORDINATES+then-d-k+else-j-k, else-k-le-COORDINATES-via-then-k-le-COORDINATES+else-d-k, else-k-le-COORDINATES-via-else-k-le-COORDINATES}
 
 -- the entry that is read is the rotation's
 pub returns-then-j-k : goal.returns-then-j-k
@@ -38,8 +39,8 @@ overflow_cast-result c = let a = c.args in omega (arith, returns-then-j-k c, rot
 
 pub returns-else-k-le-COORDINATES : goal.returns-else-k-le-COORDINATES
 returns-else-k-le-COORDINATES c =
-    sym (rotation-out _ _ _ (λ w.
-    ⊎_elim
-    (λ u. omega (arith, ltb-false))
-    (⊎_elim (λ u. omega (arith, ltb-false)) (λ u. omega arith))
-    c.if-k-le-COORDINATES.branch))
+    sym (rotation-out _ _ _ (λ w. elim c.else-k-le-COORDINATES.branch [
+      | else-k-le-COORDINATES-via-then-k-le-COORDINATES+then-d-k+else-j-k u ↦ omega arith
+      | else-k-le-COORDINATES-via-then-k-le-COORDINATES+else-d-k u ↦ omega arith
+      | else-k-le-COORDINATES-via-else-k-le-COORDINATES u ↦ omega arith
+    ]))

@@ -1,7 +1,6 @@
 -- `text::refused` meets its contract. Assumes nothing.
 use mir.Facts.{to_z-of_z}
 use Rattle.text.specs.Answers.{refused_by}
-use borrow.Author.Rules.{rules}
 use Rattle.text.proofs.refused.Goals as goal
 
 pub returns : goal.returns

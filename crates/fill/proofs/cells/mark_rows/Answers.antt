@@ -10,6 +10,7 @@ use Rattle.sheet.specs.Fill.{room_cells}
 use Rattle.fill.specs.Room.{Adds}
 use Rattle.fill.proofs.Covers.{rows_to, rows-first, rows_named, rows_other, rows_all}
 use Rattle.fill.proofs.cells.mark_rows.Goals as goal
+use Rattle.fill.proofs.cells.mark_rows.Goals.{then-names_row, else-names_row}
 
 pub widths_of-widths-requires : goal.widths_of-widths-requires
 widths_of-widths-requires c = c.requires.0.room
@@ -69,12 +70,12 @@ loop-m-preserved c =
     let old = a.marks.now in
     let named = sym c.names_row.ensures in (
       omega (arith, c.loop-m-test.true),
-      ⊎_elim
-          (λ x. subst (Adds n (rows_to block t a.r.number (m + 1)) old) (sym x.4)
-          (rows_named block t a.r.number m x.1.ensures.1 (named ∙ x.0.taken) c.loop-m.invariant.1 x.3.ensures))
-          (λ x. subst (Adds n (rows_to block t a.r.number (m + 1)) old) (sym x.1)
-          (rows_other block t a.r.number m (named ∙ x.0.left) c.loop-m.invariant.1))
-          c.if-names_row.branch,
+      elim c.if-names_row.branch [
+        | then-names_row x ↦ subst (Adds n (rows_to block t a.r.number (m + 1)) old) (sym x.marks-is)
+        (rows_named block t a.r.number m x.row_place-i.ensures.1 (named ∙ x.if-names_row.true) c.loop-m.invariant.1 x.mark_row.ensures)
+        | else-names_row x ↦ subst (Adds n (rows_to block t a.r.number (m + 1)) old) (sym x.marks-is)
+        (rows_other block t a.r.number m (named ∙ x.if-names_row.false) c.loop-m.invariant.1)
+      ],
     )
 
 pub returns : goal.returns

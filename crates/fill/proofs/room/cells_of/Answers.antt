@@ -15,8 +15,8 @@ is-dim : (c : goal.In-loop-d) → c.loop-d.d < dims c.args.block.now
 is-dim c = omega (arith, c.dims_of-k.ensures)
 
 -- with its width
-cells-next : (c : goal.After-width_of-n) → c.loop-d.n * c.width_of_lem.result ≡ cells_to c.args.block.now c.args.r.number (c.loop-d.d + 1)
-cells-next c = ap₂ ◌*◌ c.loop-d.invariant.1 c.width_of_lem.ensures ∙ sym (product-more _ _)
+cells-next : (c : goal.After-width_of-n) → c.loop-d.n * c.width_of-n.result ≡ cells_to c.args.block.now c.args.r.number (c.loop-d.d + 1)
+cells-next c = ap₂ ◌*◌ c.loop-d.invariant.1 c.width_of-n.ensures ∙ sym (product-more _ _)
 
 pub dims_of-k-requires : goal.dims_of-k-requires
 dims_of-k-requires c = c.requires.accepted.head
@@ -29,7 +29,7 @@ width_of-n-requires c = (c.requires, is-dim c)
 
 pub overflow_mul-n : goal.overflow_mul-n
 overflow_mul-n c =
-    let w : c.width_of_lem.result ≤ 2000000 = rw c.width_of_lem.ensures (width-upto c.requires (is-dim c.before)) in
+    let w : c.width_of-n.result ≤ 2000000 = rw c.width_of-n.ensures (width-upto c.requires (is-dim c.before)) in
     record { fits = omega (arith, mul-le-mul c.loop-d.invariant.2 w) }
 
 pub returns-then-n-gt-CELLS : goal.returns-then-n-gt-CELLS

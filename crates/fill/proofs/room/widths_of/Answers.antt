@@ -34,7 +34,7 @@ loop-d-preserved c =
       omega arith,
       simp length-set inv.1,
       one_more (IsWidth a.block.now a.r.number) c.loop-d.widths (omega (arith, inv.1, k, c.loop-d-test.true)) inv.2
-          c.width_of_lem.ensures,
+          c.width_of.ensures,
     )
 
 pub returns : goal.returns

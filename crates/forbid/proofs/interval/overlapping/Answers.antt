@@ -36,13 +36,13 @@ pub overflow_add-result : goal.overflow_add-result
 overflow_add-result c = sum_fits (bnd c.requires.highest) (bnd c.requires.other_start) tt
 
 pub overflow_add-result-2 : goal.overflow_add-result-2
-overflow_add-result-2 c = let s = c.before.before.before.before.before.before in sum_fits (first s) (back-from-end s) tt
+overflow_add-result-2 c = let s = c.before.before.before.before.before.before.before in sum_fits (first s) (back-from-end s) tt
 
 pub overflow_add-result-3 : goal.overflow_add-result-3
-overflow_add-result-3 c = let s = c.before.before.before.before.before.before in search (add-literal-fits (first s +ʷ back-from-end s))
+overflow_add-result-3 c = let s = c.before.before.before.before.before.before.before in search (add-literal-fits (first s +ʷ back-from-end s))
 
 pub overflow_sub-result : goal.overflow_sub-result
-overflow_sub-result c = let s = c.before.before.before.before.before.before in search (literal-less-fits (first s +ʷ back-from-end s) (clearance s))
+overflow_sub-result c = let s = c.before.before.before.before.before.before.before in search (literal-less-fits (first s +ʷ back-from-end s) (clearance s))
 
 -- the places of the second sum
 abbrev top : goal.After-struct_told-4-1 → Start

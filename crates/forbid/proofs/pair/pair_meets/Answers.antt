@@ -27,6 +27,7 @@ use Rattle.forbid.specs.Pair.{side_forbids, solids_forbid}
 use Rattle.forbid.specs.Region.{no_region}
 use Rattle.forbid.proofs.pair.pair_meets.Invariants.{in_side}
 use Rattle.forbid.proofs.pair.pair_meets.Goals as goal
+use Rattle.forbid.proofs.pair.pair_meets.Goals.{then-names_dim+else-is_apart, else-names_dim}
 
 pub dims_of-k-requires : goal.dims_of-k-requires
 dims_of-k-requires c = c.requires.0.accepted.head
@@ -113,20 +114,26 @@ loop-d-preserved c =
     let i = l.loop-d.invariant in
     let d = l.loop-d.d in
     let s = top l in
-    let x = axis s.args.block.now (is-dim l) in (
-      omega (arith, l.loop-d-test.true),
-      ⊎_elim (λ w. rw w.8 (simp length-set i.1)) (λ w. rw w.1 i.1) c.if-names_dim.branch,
-      ⊎_elim (λ w. rw w.9 (simp length-set i.2)) (λ w. rw w.2 i.2) c.if-names_dim.branch,
-      ⊎_elim
-          (λ w. let f = w.1.ensures in
-          let from = near-back f.from_within in
-          let to = near-back f.to_within in
-          rw (w.8, w.9) (fills-set _ i.3 (within_by from f.from_within) (within_by to f.to_within) (few l) x i.1 i.2
-          (λ p. ap₂ (λ (y z : ℤ). within y z (word p d)) (from ∙ f.from) (to ∙ f.to)
-          ∙ sym (implies-in _ (sym c.names_dim.ensures ∙ w.0.taken)))))
-          (λ w. rw (w.1, w.2) (fills-skip _ i.3 (λ p. implies-out _ (sym c.names_dim.ensures ∙ w.0.left))))
-          c.if-names_dim.branch,
-    )
+    let x = axis s.args.block.now (is-dim l) in
+    elim c.if-names_dim.branch [
+      | then-names_dim+else-is_apart w ↦
+      let f = w.interval_of-interval.ensures in
+      let from = near-back f.from_within in
+      let to = near-back f.to_within in (
+        omega (arith, l.loop-d-test.true),
+        rw w.low-is (simp length-set i.1),
+        rw w.high-is (simp length-set i.2),
+        rw (w.low-is, w.high-is) (fills-set _ i.3 (within_by from f.from_within) (within_by to f.to_within) (few l) x i.1 i.2
+        (λ p. ap₂ (λ (y z : ℤ). within y z (word p d)) (from ∙ f.from) (to ∙ f.to)
+        ∙ sym (implies-in _ (sym c.names_dim.ensures ∙ w.if-names_dim.true)))),
+      )
+      | else-names_dim w ↦ (
+        omega (arith, l.loop-d-test.true),
+        rw w.low-is i.1,
+        rw w.high-is i.2,
+        rw (w.low-is, w.high-is) (fills-skip _ i.3 (λ p. implies-out _ (sym c.names_dim.ensures ∙ w.if-names_dim.false))),
+      )
+    ]
 
 pub returns : goal.returns
 unfolding solids_forbid

@@ -9,6 +9,7 @@ use Rattle.outline.proofs.Solids.{shape-few}
 use Rattle.forbid.proofs.Solids.{forbids_to, hull-box-places, box-places}
 use Rattle.forbid.proofs.Chains.{Walk, walk_first, walk-next, walk-over, ClearOf, clear-hull, all-clear}
 use Rattle.forbid.proofs.row.forbidding_boxes.Goals as goal
+use Rattle.forbid.proofs.row.forbidding_boxes.Goals.{then-pair_forbids+else-loop-own-test, else-pair_forbids}
 
 -- the box at hand of each walk is one
 module _ (c : goal.In-pairs) where
@@ -84,10 +85,11 @@ pairs-preserved c =
     let l = c.before.before.before in
     let w = (top l).requires.0.at_point in
     walk-next l.pairs.invariant
-    (⊎_elim
-    (λ x. walk-over x.2.inv (omega (arith, x.3.left, l.boxes_of-n.ensures)))
-    (λ x. clear-hull _ _ _ _ _ _ _ w.outline _ l.hull_of-hull.ensures w.own (sym c.pair_forbids.ensures ∙ x.0.left))
-    c.if-pair_forbids.branch)
+    (elim c.if-pair_forbids.branch [
+      | then-pair_forbids+else-loop-own-test x ↦ walk-over x.loop-own.invariant (omega (arith, x.loop-own-test.false, l.boxes_of-n.ensures))
+      | else-pair_forbids x ↦
+      clear-hull _ _ _ _ _ _ _ w.outline _ l.hull_of-hull.ensures w.own (sym c.pair_forbids.ensures ∙ x.if-pair_forbids.false)
+    ])
     c.after-other.ensures
 
 pub returns-after-pairs : goal.returns-after-pairs

@@ -16,6 +16,7 @@ use Rattle.forbid.specs.Region.{IsRegion}
 use Rattle.forbid.proofs.Regions.{cut-region, miss, missed-too, forbids-same, forbids-both}
 use Rattle.forbid.proofs.Rows.{shapes_to, shapes-none, shapes-skip, shapes-more, shapes-all, set-missed}
 use Rattle.forbid.proofs.row.set_region.Goals as goal
+use Rattle.forbid.proofs.row.set_region.Goals.{then-has_shape+else-not-hit, else-has_shape}
 
 pub axes_of-k-requires : goal.axes_of-k-requires
 axes_of-k-requires c = c.requires.at_point.accepted.head
@@ -99,11 +100,13 @@ loop-t-preserved c =
     let l = c.before.before.before.before in
     let before = l.loop-t.invariant.1 in (
       few l,
-      λ i. ⊎_elim
-          (λ w. rw w.4 (forbids-same (shapes-more _ _ _ i _ _ _ (sym c.has_shape.ensures ∙ w.0.taken))
-          (forbids-both (before i) (not-false w.2.left) (w.1.ensures i) (rw (is-axes l) at w.3.ensures))))
-          (λ w. rw w.1 (forbids-same (shapes-skip _ _ _ i _ _ _ (sym c.has_shape.ensures ∙ w.0.left)) (before i)))
-          c.if-has_shape.branch,
+      λ i. elim c.if-has_shape.branch [
+        | then-has_shape+else-not-hit w ↦
+        rw w.area-is (forbids-same (shapes-more _ _ _ i _ _ _ (sym c.has_shape.ensures ∙ w.if-has_shape.true))
+        (forbids-both (before i) (not-false w.if-not-hit.false-raw) (w.shapes_region-x.ensures i) (rw (is-axes l) at w.common-area.ensures)))
+        | else-has_shape w ↦
+        rw w.area-is (forbids-same (shapes-skip _ _ _ i _ _ _ (sym c.has_shape.ensures ∙ w.if-has_shape.false)) (before i))
+      ],
     )
 
 pub returns-after-loop-t : goal.returns-after-loop-t

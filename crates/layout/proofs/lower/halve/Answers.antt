@@ -120,4 +120,4 @@ returns c =
     let a = c.before.before.before.before.before.before in
     let e = d a in
     halved-by (block e) (s e).requires (z a) (from a) (less a)
-    (subst (λ (q : Split). Probed (block e) (rest e) (best e) q c.probe.new.rest c.probe.new.rest.1.0) (same-split a) c.probe.ensures)
+    (subst (λ (q : Split). Probed (block e) (rest e) (best e) q c.probe.new.rest c.probe.new.best) (same-split a) c.probe.ensures)

@@ -65,7 +65,7 @@ module _ (c : After-copy_upto) where
   s = c.before.before
 
   abbrev part : List ℤ
-  part = c.copy_upto.new.table.1.0
+  part = c.copy_upto.new.part
 
   is-upto : part ≡ upto_value (block s) (rest s) (at s).row (at s).column (at s).at
   is-upto = c.copy_upto.ensures

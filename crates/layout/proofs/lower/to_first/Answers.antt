@@ -70,6 +70,6 @@ returns c =
     let a = c.before.before.before.before.before.before.before in
     let x = s a in
     let b = x.args.block.now in
-    let w = subst (λ (v : List ℤ). Lowered b (numbers b v) v x.args.best.now c.lower_all.new.rest c.lower_all.new.rest.1.0)
+    let w = subst (λ (v : List ℤ). Lowered b (numbers b v) v x.args.best.now c.lower_all.new.rest c.lower_all.new.best)
     (in-front a) c.lower_all.ensures in
     lowered-last b w refl

@@ -1,18 +1,9 @@
 -- `line::number::read_digits` meets its contract. The invariant: the digits from `i` on, read onto `n`, give what all of them give onto
 -- `v`, and `n` has room for as many digits as are left. Assumes nothing.
-use mathlib.Core.Path.{◌≡◌, refl, sym, ap, ◌∙◌}
-use mathlib.Core.Bool.{true}
-use mathlib.Core.Option.{Option}
-use Prim.Native.Nat.{ℕ, suc, ◌+◌, ◌*◌, ◌-◌, ◌^◌, ◌≤◌, ◌<◌}
-use native.Mathlib.Omega.{arith}
-use borrow.Author.Rules.{rules}
-use lib.IntN.{pos}
-use lib.ListN.{length, get_or, drop}
-use Rattle.integers.proofs.Booleans.{not-true, not-false}
-use Rattle.sheet.specs.Text.{digits_from, signed}
-use Rattle.line.specs.Answers.{number_of}
-use Rattle.line.proofs.Digits.{between, between-true, digits_more, digits-bad, digits-end, room_small, room-more, room-first}
-use Rattle.line.proofs.Numbers.{word_fits, word-is}
+use mathlib.Core.Path.{◌≡◌}
+use Prim.Native.Nat.{◌+◌, ◌*◌, ◌-◌, ◌^◌, ◌≤◌}
+use lib.ListN.{length, drop}
+use Rattle.sheet.specs.Text.{digits_from}
 use Rattle.line.proofs.number.read_digits.Given as goal
 
 abbrev pub invariant-loop-i : goal.invariant-loop-i

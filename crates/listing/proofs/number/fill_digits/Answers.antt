@@ -1,11 +1,10 @@
 -- `listing::number::fill_digits` meets its contract. The invariant: the digits of `m` before those that stand from `i` on are the digits
 -- of `n`, and the buffer's length is the fuel of `decimal`. Assumes nothing.
 use mathlib.Core.Path.{◌≡◌, refl, sym, ap, ◌∙◌}
-use mathlib.Core.List.{[]}
-use Prim.Native.Nat.{ℕ, ◌≤◌}
+use Prim.Native.Nat.{ℕ}
 use native.Mathlib.Omega.{arith}
 use native.Mathlib.Nat.{le_refl}
-use lib.ListN.{length, drop, length-set, drop_of_length-le}
+use lib.ListN.{drop, length-set, drop_of_length-le}
 use Rattle.sheet.specs.Text.{decimal}
 use Rattle.listing.proofs.Decimal.{decimal-none, digit-last, digit-more}
 use Rattle.listing.proofs.number.fill_digits.Goals as goal

@@ -5,7 +5,6 @@ use mir.Facts.{to_z-of_z}
 use Rattle.integers.proofs.Ints.{ints}
 use Rattle.stores.proofs.Puts.{put_as, put_one, put-more}
 use Rattle.listing.proofs.Decimal.{shown-below, shown-above}
-use borrow.Author.Rules.{rules}
 use Rattle.listing.proofs.number.put_number.Goals as goal
 
 pub returns-then-v-lt0 : goal.returns-then-v-lt0

@@ -229,6 +229,6 @@ returns c =
     let r = c.before.before.before.before.before.before.before.before.before in
     let a = s (b r) in (
       sym (kept-shape (block a) (table a) (row a) (next a) r.search-x.result.point a.requires.1 (found r (not-false c.if-not-found.false-raw))),
-      λ flip d l. inl (of-list (g r) (λ j u. Edges (block a) (table a) j.number u c.widen.new.table.1.1.1.1.0)
+      λ flip d l. inl (of-list (g r) (λ j u. Edges (block a) (table a) j.number u c.widen.new.ends)
           c.widen.ensures flip d l),
     )

@@ -18,8 +18,8 @@ After-end_of-end = lts.After-end_of tie.the-claims reads.Pre reads.Post
 
 -- the end as the code holds it
 end_is : (c : After-end_of-end) → let a = c.args in
-    to_z w64 (of_z w64 c.end_of_lem.result) ≡ end_at a.flip a.d a.area.now
-end_is c = bits_back c.end_of_lem.type_inv ∙ c.end_of_lem.ensures
+    to_z w64 (of_z w64 c.end_of-end.result) ≡ end_at a.flip a.d a.area.now
+end_is c = bits_back c.end_of-end.type_inv ∙ c.end_of-end.ensures
 
 pub returns-then-flip : goal.returns-then-flip
 returns-then-flip c =

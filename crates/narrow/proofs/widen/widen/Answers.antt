@@ -95,8 +95,8 @@ dim_of-d-requires c = c.loop-e-test.true
 pub widen_end-requires : goal.widen_end-requires
 widen_end-requires c =
     let m = c.before.before.before in
-    let w = (l m).loop in
-    (widening (s (l m)) (put (l m)).put_area.ensures.1 w.inv.4 w.inv.1, below-axes m, w.inv.2 _ (d m) (below-axes m))
+    let w = (l m).loop-e in
+    (widening (s (l m)) (put (l m)).put_area.ensures.1 w.invariant.4 w.invariant.1, below-axes m, w.invariant.2 _ (d m) (below-axes m))
 
 pub overflow_add-e : goal.overflow_add-e
 overflow_add-e c =

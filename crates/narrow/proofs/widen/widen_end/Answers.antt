@@ -40,8 +40,8 @@ module _ (s : Start) where
   begun = record { given = s.requires.0; below = s.requires.1; edge = s.requires.2 }
 
 -- the end as the code holds it
-end_is : (c : goal.After-end_of-z) → to_z w64 (of_z w64 c.end_of_lem.result) ≡ z c.before
-end_is c = bits_back c.end_of_lem.type_inv ∙ c.end_of_lem.ensures
+end_is : (c : goal.After-end_of-z) → to_z w64 (of_z w64 c.end_of-z.result) ≡ z c.before
+end_is c = bits_back c.end_of-z.type_inv ∙ c.end_of-z.ensures
 
 -- the test whether the cut box has nothing ahead of the end
 tested : (c : After-none_past) → let s = c.before.before in
@@ -58,16 +58,16 @@ module _ (c : After-ahead_of-ahead) where
   abbrev start : Start
   start = test.before.before
 
-  cuts : let s = start in Cuts (axes s.args.block.now) (cut s) c.ahead_of_lem.result
+  cuts : let s = start in Cuts (axes s.args.block.now) (cut s) c.ahead_of-ahead.result
       (λ p. within (past-from s.args.flip (z s)) (past_to s.args.flip (z s)) (word p s.args.d))
   cuts =
       let s = start in
       let k = axes s.args.block.now in
-      subst (λ (a : Area). Cuts k a c.ahead_of_lem.result
+      subst (λ (a : Area). Cuts k a c.ahead_of-ahead.result
       (λ p. within (past-from s.args.flip (z s)) (past_to s.args.flip (z s)) (word p s.args.d))) c.area_at-area.ensures
-      (subst (λ (y : ℤ). Cuts k c.area_at-area.result c.ahead_of_lem.result
+      (subst (λ (y : ℤ). Cuts k c.area_at-area.result c.ahead_of-ahead.result
       (λ p. within (past-from s.args.flip y) (past_to s.args.flip y) (word p s.args.d)))
-      (end_is test.before) (c.ahead_of_lem.ensures k s.requires.1))
+      (end_is test.before) (c.ahead_of-ahead.ensures k s.requires.1))
 
 pub none_past-requires : goal.none_past-requires
 none_past-requires c = few (begun c.before)

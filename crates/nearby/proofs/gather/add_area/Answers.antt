@@ -12,6 +12,7 @@ use Rattle.nearby.proofs.gather.add_area.Lts as lts
 use Rattle.nearby.proofs.gather.add_area.Reads as reads
 use Rattle.nearby.proofs.gather.add_area.Tie as tie
 use Rattle.nearby.proofs.gather.add_area.Goals as goal
+use Rattle.nearby.proofs.gather.add_area.Goals.{then-fills+else-remember, else-fills}
 
 abbrev Joined-fills : Type 0
 Joined-fills = lts.Joined1 tie.the-claims reads.Pre reads.Post
@@ -24,8 +25,11 @@ returns-then-remember c block table i s threat =
     grows-known threat c.remember.ensures c.if-remember.true c.if-fills.true
 
 -- the known areas are as they were
-known_same : (c : Joined-fills) → c.if1.known ≡ c.args.known.now
-known_same c = ⊎_elim (λ x. x.4 ∙ x.2.ensures.same x.3.left) (λ x. x.1) c.if-fills.branch
+known_same : (c : Joined-fills) → c.if-fills.known ≡ c.args.known.now
+known_same c = elim c.if-fills.branch [
+  | then-fills+else-remember x ↦ x.known-is ∙ x.remember.ensures.same x.if-remember.false
+  | else-fills x ↦ x.known-is
+]
 
 pub returns-then-count-ge-FULL : goal.returns-then-count-ge-FULL
 returns-then-count-ge-FULL c block table i s threat = rw (known_same c.before) grows-full

@@ -85,7 +85,7 @@ add_area-requires c =
       rule = omega (arith, x.binds.rule.below, w.accepted.head.few_rules);
       row = omega (arith, x.row.upto, w.table.whole.few_rows);
       counted = g.areas.counted;
-      fits = λ f. (g.suspects f).ranges;
+      fits = λ f. (g.suspects f).fits;
     }
 
 pub returns : goal.returns

@@ -6,7 +6,6 @@ use mathlib.Core.Bool.{true, false, ◌&&◌}
 use Prim.Native.Nat.{ℕ, ◌-◌, ◌^◌, ◌≤◌, ◌<◌}
 use native.Mathlib.Omega.{arith}
 use lib.ListN.{length}
-use borrow.Author.Rules.{rules}
 use Rattle.integers.specs.Below.{any_below}
 use Rattle.integers.specs.Bits.{bit}
 use Rattle.integers.specs.Words.{word}
@@ -24,6 +23,7 @@ use Rattle.nearby.proofs.gather.gather.Lts as lts
 use Rattle.nearby.proofs.gather.gather.Reads as reads
 use Rattle.nearby.proofs.gather.gather.Tie as tie
 use Rattle.nearby.proofs.gather.gather.Goals as goal
+use Rattle.nearby.proofs.gather.gather.Goals.{else-loop-r-test, then-loop-r-test+then-is_below}
 
 abbrev Start : Type 0
 Start = lts.Start tie.the-claims reads.Pre reads.Post goal.the-invariant-loop-r goal.the-decreases-loop-r
@@ -79,12 +79,14 @@ loop-r-preserved c =
 no_more : (c : Left-loop-r) (q : ℕ) → let a = (start c.before.before).args in
     q < rules a.block.now → bit (word a.outline.now rules_at) q ≡ true → q < c.loop-r.r
 no_more c q h e =
-    ⊎_elim
-    (λ x. omega (arith, x.left, c.rules_of-n.ensures))
-    (λ x. ⊎_elim (λ l. l)
-    (λ l. clash e (bit_past _ (subst (λ (n : ℕ). n < 2 ^ c.loop-r.r) c.counting-counted.ensures (x.1.ensures.0 x.2.taken)) l))
-    (below_or q c.loop-r.r))
-    c.loop-r-test.branch
+    elim c.loop-r-test.branch [
+      | else-loop-r-test x ↦ omega (arith, x.loop-r-test.false, c.rules_of-n.ensures)
+      | then-loop-r-test+then-is_below x ↦ ⊎_elim
+          (λ l. l)
+          (λ l. clash e
+          (bit_past _ (subst (λ (n : ℕ). n < 2 ^ c.loop-r.r) c.counting-counted.ensures (x.is_below.ensures.0 x.if-is_below.true)) l))
+          (below_or q c.loop-r.r)
+    ]
 
 pub shape_of-suspects-then-found-lt-FULL : goal.shape_of-suspects-then-found-lt-FULL
 shape_of-suspects-then-found-lt-FULL c = c.loop-r.invariant.3

@@ -6,7 +6,6 @@ use mathlib.Core.Bool.{true, false, ◌&&◌}
 use Prim.Native.Nat.{ℕ, ◌-◌, ◌^◌, ◌≤◌, ◌<◌}
 use native.Mathlib.Omega.{arith}
 use lib.ListN.{length}
-use borrow.Author.Rules.{rules}
 use Rattle.integers.specs.Below.{any_below}
 use Rattle.integers.specs.Bits.{bit}
 use Rattle.integers.specs.Words.{word}

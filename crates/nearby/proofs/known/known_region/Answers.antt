@@ -56,14 +56,14 @@ overflow_add-at c = omega (arith, few c)
 pub area_holds-requires : goal.area_holds-requires
 area_holds-requires c =
     let l = c.before in (
-      omega (arith, few l, l.loop-e-test.true, c.area_holds-arg-1.given.0),
+      omega (arith, few l, l.loop-e-test.true, c.area_holds-arg-1.given),
       omega (arith, (s l).requires.0.few_axes, l.axes_of-k.ensures),
     )
 
 pub area_at-requires : goal.area_at-requires
 area_at-requires c =
     let l = c.before.before.before.before in
-    omega (arith, few l, l.loop-e-test.true, c.area_at-arg-1.given.0)
+    omega (arith, few l, l.loop-e-test.true, c.area_at-arg-1.given)
 
 -- the test of one area
 tested : (c : After-area_holds) → c.area_holds.result

@@ -25,6 +25,7 @@ use Rattle.nearby.specs.Places.{suspect_at, rule_of, row_of, suspect_area}
 use Rattle.nearby.specs.Listing.{Suspect}
 use Rattle.nearby.proofs.suspect.suspected_region.Invariants.{Silent}
 use Rattle.nearby.proofs.suspect.suspected_region.Goals as goal
+use Rattle.nearby.proofs.suspect.suspected_region.Goals.{then-area_holds+then-has_one_shape+else-hit, then-area_holds+else-has_one_shape+else-hit-2, else-area_holds}
 
 module _ (block : List ℤ) (table : List ℤ) (i : ℕ) (s : ℕ) where
   -- rule r and row j forbid what suspect m does, where they are its rule and its row
@@ -174,15 +175,19 @@ silent c i e =
     let l = c.before.before in
     let a = (start l).args in
     let list = a.suspects.now in
-    ⊎_elim
-    (λ w. of-suspect _ _ i _ list (at l) _ (w.2.ensures.1 ∙ w.1.ensures) (w.4.ensures.1 ∙ w.3.ensures)
-    ∙ miss (by-lowest _ _ i _ _ w.5.ensures w.6.taken w.7.ensures (w.8.ensures i)) w.9.left)
-    (⊎_elim
-    (λ w. of-suspect _ _ i _ list (at l) _ (w.2.ensures.1 ∙ w.1.ensures) (w.4.ensures.1 ∙ w.3.ensures)
-    ∙ miss (w.7.ensures i) w.8.left)
-    (λ w. clash (c.area_holds.ensures
-    ∙ ap (λ (k : ℕ). in_area k (suspect_area list (at l)) a.p) l.axes_of-k.ensures ∙ e) w.left))
-    c.if-area_holds.branch
+    elim c.if-area_holds.branch [
+      | then-area_holds+then-has_one_shape+else-hit w ↦
+      of-suspect _ _ i _ list (at l) _ (w.rule_place-r.ensures.1 ∙ w.count_at.ensures)
+      (w.row_place-j.ensures.1 ∙ w.count_at-then-area_holds.ensures)
+      ∙ miss (by-lowest _ _ i _ _ w.has_one_shape.ensures w.if-has_one_shape.true w.lowest_shape-t.ensures (w.shapes_region-x.ensures i))
+      w.if-hit.false
+      | then-area_holds+else-has_one_shape+else-hit-2 w ↦
+      of-suspect _ _ i _ list (at l) _ (w.rule_place-r.ensures.1 ∙ w.count_at.ensures)
+      (w.row_place-j.ensures.1 ∙ w.count_at-then-area_holds.ensures)
+      ∙ miss (w.set_region-x.ensures i) w.if-hit-2.false
+      | else-area_holds w ↦ clash (c.area_holds.ensures
+      ∙ ap (λ (k : ℕ). in_area k (suspect_area list (at l)) a.p) l.axes_of-k.ensures ∙ e) w.if-area_holds.false
+    ]
 
 pub loop-e-preserved : goal.loop-e-preserved
 loop-e-preserved c =

@@ -17,6 +17,7 @@ use Rattle.outline.proofs.Chains.{chained-kept}
 use Rattle.outline.proofs.Solids.{shape-few, boxes-kept, hull-kept}
 use Rattle.outline.proofs.solid.put_hulls.Invariants.{Put}
 use Rattle.outline.proofs.solid.put_hulls.Goals as goal
+use Rattle.outline.proofs.solid.put_hulls.Goals.{then-first_of-n, else-first_of-n}
 
 pub boxes_of-n-requires : goal.boxes_of-n-requires
 boxes_of-n-requires c = c.requires.0.head
@@ -54,20 +55,21 @@ loop-s-preserved c =
     let head = c.requires.0.head in
     let block = c.args.block.now in (
       omega (arith, c.loop-s-test.true),
-      ⊎_elim
-          (λ a. subst (Put block c.args.outline.now (s + 1)) (sym a.3) (
-            same_then i.0 a.2.ensures.0 (omega arith),
-            λ t k b. ⊎_elim (λ q. rw q a.2.ensures.1) (λ m. hull-kept head a.2.ensures.0 t (omega arith) (i.1 t m b))
-                (last_or (subst (λ (m : ℕ). t < m) (add-one s) k)),
-          ))
-          (λ a. subst (Put block c.args.outline.now (s + 1)) (sym a.1) (
-            i.0,
-            λ t k b. ⊎_elim
-                (λ q. clash (rw q at b.is) (c.first_of.ensures.2 b.box (omega (arith, b.below, c.boxes_of-n.ensures, a.0.left))))
-                (λ m. i.1 t m b)
-                (last_or (subst (λ (m : ℕ). t < m) (add-one s) k)),
-          ))
-          c.if-first_of-n.branch,
+      elim c.if-first_of-n.branch [
+        | then-first_of-n a ↦ subst (Put block c.args.outline.now (s + 1)) (sym a.outline-is) (
+          same_then i.0 a.put_hull.ensures.0 (omega arith),
+          λ t k b. ⊎_elim (λ q. rw q a.put_hull.ensures.1) (λ m. hull-kept head a.put_hull.ensures.0 t (omega arith) (i.1 t m b))
+              (last_or (subst (λ (m : ℕ). t < m) (add-one s) k)),
+        )
+        | else-first_of-n a ↦ subst (Put block c.args.outline.now (s + 1)) (sym a.outline-is) (
+          i.0,
+          λ t k b. ⊎_elim
+              (λ q. clash (rw q at b.is)
+              (c.first_of.ensures.2 b.box (omega (arith, b.below, c.boxes_of-n.ensures, a.if-first_of-n.false))))
+              (λ m. i.1 t m b)
+              (last_or (subst (λ (m : ℕ). t < m) (add-one s) k)),
+        )
+      ],
     )
 
 pub returns : goal.returns

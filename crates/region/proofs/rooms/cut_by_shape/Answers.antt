@@ -13,21 +13,15 @@ use Rattle.points.specs.Area.{Cuts, area_of}
 use Rattle.points.proofs.Cut.{cuts-zero, cuts-more, cuts-same, cuts-in, cuts-out}
 use Rattle.region.specs.Rooms.{side_contained, shape_contained}
 use Rattle.region.proofs.Contained.{hull-sides}
+use Rattle.region.proofs.rooms.cut_by_shape.Invariants.{CutTo}
 use Rattle.region.proofs.rooms.cut_by_shape.Lts as lts
 use Rattle.region.proofs.rooms.cut_by_shape.Reads as reads
 use Rattle.region.proofs.rooms.cut_by_shape.Tie as tie
 use Rattle.region.proofs.rooms.cut_by_shape.Goals as goal
+use Rattle.region.proofs.rooms.cut_by_shape.Goals.{then-names_dim, else-names_dim}
 
 abbrev At-loop-d : Type 0
 At-loop-d = lts.At-loop tie.the-claims reads.Pre reads.Post goal.the-invariant-loop-d goal.the-decreases-loop-d
-
--- from the run u to w, cut by shape s in the dimensions below n that rule r names
-module _ (block o : List ℤ) (r s : ℕ) where
-  abbrev side_holds : ℕ → List ℤ → Bool
-  side_holds d p = names_dim block r d ⇒ side_contained block o r s d p
-
-  abbrev CutTo : ℕ → List ℤ → List ℤ → Type 0
-  CutTo n u w = (length w ≡ length u) × Cuts (axes block) (area_of u) (area_of w) (λ p. all_below n (λ d. side_holds d p))
 
 pub dims_of-k-requires : goal.dims_of-k-requires
 dims_of-k-requires c = c.requires.0.accepted.head
@@ -81,11 +75,12 @@ loop-d-preserved c =
     let a = (start c.before.before.before.before).args in
     let P = CutTo a.block.now a.outline.now a.r.number a.s (l.d + 1) a.ends.now in (
       omega (arith, l.invariant.0, c.if-d-k.false),
-      ⊎_elim
-          (λ b. subst P (sym b.4)
-          (b.3.given ∙ l.invariant.1.0, cuts-more _ l.invariant.1.1 (cuts-in (sym c.names_dim.ensures ∙ b.0.taken) b.2.ensures)))
-          (λ b. subst P (sym b.1) (l.invariant.1.0, cuts-more _ l.invariant.1.1 (cuts-out _ (sym c.names_dim.ensures ∙ b.0.left))))
-          c.if-names_dim.branch,
+      elim c.if-names_dim.branch [
+        | then-names_dim b ↦ subst P (sym b.ends-is)
+        (b.cut_by_side.auto.ends ∙ l.invariant.1.0, cuts-more _ l.invariant.1.1 (cuts-in (sym c.names_dim.ensures ∙ b.if-names_dim.true) b.cut_by_side.ensures))
+        | else-names_dim b ↦ subst P (sym b.ends-is)
+        (l.invariant.1.0, cuts-more _ l.invariant.1.1 (cuts-out _ (sym c.names_dim.ensures ∙ b.if-names_dim.false)))
+      ],
     )
 
 pub shape_of-ends : goal.shape_of-ends

@@ -92,10 +92,10 @@ pub room_low-requires : goal.room_low-requires
 room_low-requires c = let p = (start c).requires in (p.0.rule, p.1)
 
 pub overflow_sub-low : goal.overflow_sub-low
-overflow_sub-low c = let l = c.before.before in diff-fits (bnd (low-within l)) (bnd (start-within l.before)) tt
+overflow_sub-low c = let l = c.before.before.before in diff-fits (bnd (low-within l)) (bnd (start-within l.before)) tt
 
 pub room_high-requires : goal.room_high-requires
-room_high-requires c = let p = (start c.before.before.before).requires in (p.0.rule, p.1)
+room_high-requires c = let p = (start c.before.before.before.before).requires in (p.0.rule, p.1)
 
 pub overflow_sub-high : goal.overflow_sub-high
 overflow_sub-high c = let h = c.before.before in diff-fits (bnd (high-within h)) (bnd (end-within (extent h))) tt

@@ -13,25 +13,21 @@ rows_of-n-requires c = c.requires.0
 pub loop-row-init : goal.loop-row-init
 loop-row-init c = (omega arith, omega arith, gains-start c.args.block.now c.args.table.now refl)
 
--- a row of the table, of which there are at most eight
-in_table : (c : goal.In-loop-row) → c.loop-row.row ≤ c.rows_of-n.result
-in_table c = c.loop-row-test.true
-
 pub overflow_sub-row : goal.overflow_sub-row
 overflow_sub-row c = c.loop-row.invariant.0
 
 pub offset_bounds-failures-row : goal.offset_bounds-failures-row
-offset_bounds-failures-row c = omega (arith, in_table c, c.rows_of-n.ensures, c.requires.2)
+offset_bounds-failures-row c = omega (arith, c.loop-row-test.true, c.rows_of-n.ensures, c.requires.2)
 
 pub bounds-failures-row : goal.bounds-failures-row
-bounds-failures-row c = omega (arith, in_table c.before, c.loop-row.invariant.0, c.rows_of-n.ensures, c.requires.2)
+bounds-failures-row c = omega (arith, c.loop-row-test.true, c.loop-row.invariant.0, c.rows_of-n.ensures, c.requires.2)
 
 pub row_place-requires : goal.row_place-requires
 row_place-requires c =
     (
       c.requires.0,
       c.requires.1.whole,
-      record { from = c.loop-row.invariant.0; upto = omega (arith, in_table c.before.before.before, c.rows_of-n.ensures) },
+      record { from = c.loop-row.invariant.0; upto = omega (arith, c.loop-row-test.true, c.rows_of-n.ensures) },
     )
 
 pub gain_in_row-best-requires : goal.gain_in_row-best-requires
@@ -44,15 +40,14 @@ gain_in_row-best-requires c =
 
 pub overflow_add-row : goal.overflow_add-row
 overflow_add-row c =
-    let t = c.before.before.before.before.before in
-    omega (arith, in_table t, t.rows_of-n.ensures, t.requires.2)
+    omega (arith, c.loop-row-test.true, c.rows_of-n.ensures, c.requires.2)
 
 pub loop-row-smaller : goal.loop-row-smaller
-loop-row-smaller c = omega (arith, in_table c.before.before.before.before.before)
+loop-row-smaller c = omega (arith, c.loop-row-test.true)
 
 pub loop-row-preserved : goal.loop-row-preserved
 loop-row-preserved c =
-    (omega arith, omega (arith, in_table c.before.before.before.before.before), rw c.row_place.ensures.1 at c.gain_in_row-best.ensures)
+    (omega arith, omega (arith, c.loop-row-test.true), rw c.row_place.ensures.1 at c.gain_in_row-best.ensures)
 
 pub returns : goal.returns
 returns c =

@@ -24,6 +24,7 @@ use Rattle.settle.proofs.settle_rows.Lts as lts
 use Rattle.settle.proofs.settle_rows.Reads as reads
 use Rattle.settle.proofs.settle_rows.Tie as tie
 use Rattle.settle.proofs.settle_rows.Goals as goal
+use Rattle.settle.proofs.settle_rows.Goals.{in-Still, in-Moved}
 
 abbrev At-loop-known : Type 0
 At-loop-known = lts.At-loop tie.the-claims reads.Pre reads.Post goal.the-invariant-loop-known goal.the-decreases-loop-known
@@ -126,13 +127,13 @@ narrow_row-requires c =
     record { accepted = (s l).requires.0; table = table l; outline = (s l).requires.2; row = c.row_place-row.ensures.0 }
 
 pub shape_of-table-in-NoPlace : goal.shape_of-table-in-NoPlace
-shape_of-table-in-NoPlace c = c.table-1.given ∙ (l c.before.before.before.before).loop-known.invariant.0.way.good.as_long
+shape_of-table-in-NoPlace c = c.table-1.given ∙ (l c.before.before.before).loop-known.invariant.0.way.good.as_long
 
 pub shape_of-suspects-in-NoPlace : goal.shape_of-suspects-in-NoPlace
-shape_of-suspects-in-NoPlace c = c.suspects-1.given ∙ (l c.before.before.before.before).loop-known.invariant.3
+shape_of-suspects-in-NoPlace c = c.suspects-1.given ∙ (l c.before.before.before).loop-known.invariant.3
 
 pub returns-in-NoPlace : goal.returns-in-NoPlace
-returns-in-NoPlace c = record { yes = λ e. clash e refl; no = λ e. turn-none (turn c.before.before.before.before) c.enum_told-1.given.1 }
+returns-in-NoPlace c = record { yes = λ e. clash e refl; no = λ e. turn-none (turn c.before.before.before) c.in-NoPlace.is }
 
 pub slice_bounds-touched-end : goal.slice_bounds-touched-end
 slice_bounds-touched-end c = sym (l c.before.before.before.before.before).loop-known.invariant.4
@@ -141,7 +142,7 @@ pub touched-requires : goal.touched-requires
 touched-requires c =
     let d = c.before.before.before.before.before in
     let place = d.row_place-row.ensures.0 in
-    let good = turn-good (turn d) c.enum_told-in-Moved-1.given.1 in
+    let good = turn-good (turn d) c.in-Moved.is in
     let as_many = rows_same (block (l d)) d.narrow_row.new.table (s (l d)).args.table.now good.as_long in
     record {
       on = record {
@@ -161,28 +162,31 @@ touched-requires c =
     }
 
 pub offset_bounds-due-i : goal.offset_bounds-due-i
-offset_bounds-due-i c = let d = c.before.before.before in omega (arith, not_last (e d), few (l d))
+offset_bounds-due-i c = let d = c.before.before.before.before in omega (arith, not_last (e d), few (l d))
 
 pub array_set_of-due : goal.array_set_of-due
-array_set_of-due c = let d = c.before.before.before in omega (arith, not_last (e d), few (l d))
+array_set_of-due c = let d = c.before.before.before.before in omega (arith, not_last (e d), few (l d))
 
 pub loop-known-smaller : goal.loop-known-smaller
 loop-known-smaller c =
-    let d = c.before.before.before in
-    ⊎_elim
-    (λ a. still-less (turn d) a.1.given.1 a.2 ((e d).next_row-i.ensures.set (not_last (e d))))
-    (λ a. moved-less (turn d) a.1.given.1 (cleared c.in-NoPlace.due (e d).next_row-i.result))
-    c.in-NoPlace.branch
+    let d = c.before.before.before.before in
+    elim c.match-narrow_row.branch [
+      | in-Still a ↦ still-less (turn d) a.in-Still.is a.due-is ((e d).next_row-i.ensures.set (not_last (e d)))
+      | in-Moved a ↦ moved-less (turn d) a.in-Moved.is (cleared c.match-narrow_row.due (e d).next_row-i.result)
+    ]
 
 pub loop-known-preserved : goal.loop-known-preserved
 loop-known-preserved c =
-    let d = c.before.before.before in (
-      ⊎_elim
-          (λ a. turn-still (turn d) a.1.given.1 a.2)
-          (λ a. turn_moved (turn d) a.1.given.1 a.6 (l d).loop-known.invariant.1 a.4.ensures)
-          c.in-NoPlace.branch,
-      (l d).loop-known.invariant.1,
-      (e d).next_row-i.ensures.upto,
-      c.suspects-1.given ∙ (l d).loop-known.invariant.3,
-      simp length-set (⊎_elim (λ a. ap length a.2 ∙ (l d).loop-known.invariant.4) (λ a. ap length a.6 ∙ a.5.given) c.in-NoPlace.branch),
+    let d = c.before.before.before.before in (
+      elim c.match-narrow_row.branch [
+        | in-Still a ↦ turn-still (turn d) a.in-Still.is a.due-is
+        | in-Moved a ↦ turn_moved (turn d) a.in-Moved.is a.due-is c.loop-known.invariant.1 a.touched.ensures
+      ],
+      c.loop-known.invariant.1,
+      c.next_row-i.ensures.upto,
+      c.narrow_row.auto.suspects ∙ c.loop-known.invariant.3,
+      simp length-set (elim c.match-narrow_row.branch [
+        | in-Still a ↦ ap length a.due-is ∙ c.loop-known.invariant.4
+        | in-Moved a ↦ ap length a.due-is ∙ a.touched.auto.due ∙ c.loop-known.invariant.4
+      ]),
     )

@@ -9,6 +9,7 @@ use Rattle.sheet.specs.Layout.{rows_most}
 use Rattle.settle.specs.Todo.{Spared}
 use Rattle.settle.proofs.Turns.{todo-taken, Setting, setting-start, setting-stay, setting-put, setting-done}
 use Rattle.settle.proofs.touched_by.Goals as goal
+use Rattle.settle.proofs.touched_by.Goals.{then-due-m-ne1+then-threatens, then-due-m-ne1+else-threatens, else-due-m-ne1}
 
 few : (s : goal.Start) → s.args.n ≤ rows_most
 few s = omega (arith, s.requires.0.count, s.requires.0.on.table.whole.few_rows)
@@ -48,17 +49,14 @@ loop-m-preserved c =
     let long = c.loop-m.invariant.2 in
     let now-set = c.loop-m.invariant.1 in (
       omega arith,
-      ⊎_elim
-          (λ x. subst next (sym x.3) (setting-put now-set (omega (arith, long, c.requires.0.long, few c.before.before.before.before))))
-          (⊎_elim
-          (λ x. subst next (sym x.3) (setting-stay now-set (λ e kind names-i names. x.1.ensures x.2.left names)))
-          (λ x. subst next (sym x.1) (setting-stay now-set
-          (λ e. clash (todo-taken c.loop-m.due c.loop-m.m c.t12-1.given x.0.left) e))))
-          c.if-due-m-ne1.branch,
-      ⊎_elim
-          (λ x. ap length x.3 ∙ simp length-set long)
-          (⊎_elim (λ x. ap length x.3 ∙ long) (λ x. ap length x.1 ∙ long))
-          c.if-due-m-ne1.branch,
+      elim c.if-due-m-ne1.branch [
+        | then-due-m-ne1+then-threatens x ↦ subst next (sym x.due-is)
+        (setting-put now-set (omega (arith, long, c.requires.0.long, c.requires.0.count, c.requires.0.on.table.whole.few_rows)))
+        | then-due-m-ne1+else-threatens x ↦ subst next (sym x.due-is)
+        (setting-stay now-set (λ e kind names-i names. x.threatens.ensures x.if-threatens.false names))
+        | else-due-m-ne1 x ↦ subst next (sym x.due-is) (setting-stay now-set (λ e. clash (todo-taken c.loop-m.due c.loop-m.m c.t12-1.given x.if-due-m-ne1.false) e))
+      ],
+      c.if-due-m-ne1.auto.due ∙ long,
     )
 
 pub shape_of-due : goal.shape_of-due

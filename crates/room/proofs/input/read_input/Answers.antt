@@ -1,5 +1,5 @@
 -- `input::read_input` meets its contract: what a read puts there stands behind what was read before. Assumes nothing.
-use Rattle.std.proofs.Common.{rules, ◌++◌, subst, sym, length, take}
+use Rattle.std.proofs.Common.{rules, subst, sym}
 use Rattle.std.specs.Io.KnownBytes.{Consumes}
 use Rattle.std.proofs.KnownBytes.{Consumes-trans}
 use Rattle.room.proofs.Filled.{filled}

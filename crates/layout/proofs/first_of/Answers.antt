@@ -26,6 +26,9 @@ After-copy = lts.After-copy tie.the-claims reads.Pre reads.Post
 abbrev After-place : Type 0
 After-place = lts.After-place tie.the-claims reads.Pre reads.Post
 
+abbrev Else-not-place : Type 0
+Else-not-place = lts.Else1 tie.the-claims reads.Pre reads.Post
+
 abbrev After-to_first : Type 0
 After-to_first = lts.After-to_first tie.the-claims reads.Pre reads.Post
 
@@ -87,7 +90,7 @@ returns-then-not-place c =
     record { yes = λ e. clash e refl; no = λ _. nothing ((found p).no (not-true c.if-not-place.true-raw)); same = λ _. refl }
 
 -- a placement, at the start of the array
-module _ (c : goal.Else-not-place) where
+module _ (c : Else-not-place) where
   abbrev p : After-place
   p = c.before.before
 
@@ -105,10 +108,10 @@ module _ (c : goal.Else-not-place) where
       whole (outcome p) (array (a p)) (length (t (a p))) placed.inside.as_long (omega (arith, short (s (a p)), all (a p))) ∙ all (a p)
 
 pub slice_bounds-best-end-3 : goal.slice_bounds-best-end-3
-slice_bounds-best-end-3 c = let e = c in omega (arith, second-all e, short (s (a (p e))))
+slice_bounds-best-end-3 c = let e = c.before in omega (arith, second-all e, short (s (a (p e))))
 
 pub slice_bounds-to_first-end : goal.slice_bounds-to_first-end
-slice_bounds-to_first-end c = let e = c.before in sym (ap length (second-front e) ∙ (placed e).inside.as_long)
+slice_bounds-to_first-end c = let e = c.before.before in sym (ap length (second-front e) ∙ (placed e).inside.as_long)
 
 pub to_first-requires : goal.to_first-requires
 to_first-requires c =
@@ -118,7 +121,7 @@ to_first-requires c =
 
 -- the first, at the start of the array
 module _ (c : After-to_first) where
-  abbrev e : goal.Else-not-place
+  abbrev e : Else-not-place
   e = c.before.before.before
 
   abbrev q : After-copy

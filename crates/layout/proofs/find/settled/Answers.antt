@@ -8,7 +8,7 @@ use Rattle.layout.proofs.find.settled.Goals as goal
 pub returns-in-Settled : goal.returns-in-Settled
 returns-in-Settled c =
     record {
-      yes = λ _. found-settled c.args.block.now c.args.table.now c.requires c.settle.ensures c.enum_told-1.given.1;
+      yes = λ _. found-settled c.args.block.now c.args.table.now c.requires c.settle.ensures c.in-Settled.is;
       no = λ e. clash refl e;
     }
 
@@ -16,9 +16,9 @@ pub returns-in-NoLayout : goal.returns-in-NoLayout
 returns-in-NoLayout c =
     record {
       yes = λ e. clash e refl;
-      no = λ _. found-no-layout c.args.block.now c.args.table.now c.requires c.settle.ensures c.enum_told-in-NoLayout-1.given.1;
+      no = λ _. found-no-layout c.args.block.now c.args.table.now c.requires c.settle.ensures c.in-NoLayout.is;
     }
 
 pub returns-in-Refused : goal.returns-in-Refused
 returns-in-Refused c =
-    absurd (never-refused c.args.block.now c.args.table.now c.requires c.settle.ensures c.enum_told-in-Refused-1.given.1)
+    absurd (never-refused c.args.block.now c.args.table.now c.requires c.settle.ensures c.in-Refused.is)

@@ -14,6 +14,9 @@ use Rattle.layout.proofs.lower.excess.Reads as reads
 use Rattle.layout.proofs.lower.excess.Tie as tie
 use Rattle.layout.proofs.lower.excess.Goals as goal
 
+abbrev After-struct_told-2-1 : Type 0
+After-struct_told-2-1 = lts.After-struct_told2 tie.the-claims reads.Pre reads.Post
+
 abbrev After-least_of-high : Type 0
 After-least_of-high = lts.After-least_of2 tie.the-claims reads.Pre reads.Post
 
@@ -24,7 +27,7 @@ pub least_of-high-requires : goal.least_of-high-requires
 least_of-high-requires c = on-best c.args.block.now c.requires
 
 -- the two values
-module _ (c : goal.After-struct_told-2-1) where
+module _ (c : After-struct_told-2-1) where
   abbrev h : After-least_of-high
   h = c.before.before
 
@@ -50,11 +53,12 @@ module _ (c : goal.After-struct_told-2-1) where
   high = bits_back {z = h.least_of-high.result.at} c.struct_told-2-1.given.1.1.0.1 ∙ h.least_of-high.ensures.least
 
 pub gap-requires : goal.gap-requires
-gap-requires c = (
-  omega (ints, low c, high c, least-below (block c) (s c).requires),
-  within_by (low c ∙ sym (l c).least_of-low.ensures.least) (l c).least_of-low.ensures.near,
-  within_by (high c ∙ sym (h c).least_of-high.ensures.least) (h c).least_of-high.ensures.near,
-)
+gap-requires c =
+    let d = c.before in (
+      omega (ints, low d, high d, least-below (block d) (s d).requires),
+      within_by (low d ∙ sym (l d).least_of-low.ensures.least) (l d).least_of-low.ensures.near,
+      within_by (high d ∙ sym (h d).least_of-high.ensures.least) (h d).least_of-high.ensures.near,
+    )
 
 pub returns : goal.returns
 returns c =

@@ -75,7 +75,7 @@ returns-then-high-low c = let d = c.before in halved_none (block d) (s d).requir
 
 pub halfway-at-requires : goal.halfway-at-requires
 halfway-at-requires c =
-    let d = c.before.before.before in (
+    let d = c.before.before.before.before in (
       omega (ints, low d, high d, c.if-high-low.false),
       within_by (low d ∙ sym (low-is d).least) (low-is d).near,
       within_by (high d ∙ sym (high_is d).least) (high_is d).near,

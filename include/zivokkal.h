@@ -1,5 +1,5 @@
-/* The C interface of the placement kernel. Link target/staticlib/libcapi.a, which `rt staticlib capi`
-   writes for x86-64 Linux. Every function is proved to give what this page says, on any words of any
+/* The C interface of the placement kernel. Link crates/capi/out/libcapi.a, which `rt lib` in
+   crates/capi writes for x86-64 Linux. Every function is proved to give what this page says, on any words of any
    length (crates/capi/src/lib.rt); what the caller must see to is under "Pointers" below.
 
    A sheet is two runs of 64-bit words that the caller lends, the block and the table. Outlines are made

@@ -1,4 +1,4 @@
-//! The proved kernel, through its C interface (include/zivokkal.h, target/staticlib/libcapi.a). A run of words goes
+//! The proved kernel, through its C interface (include/zivokkal.h, crates/capi/out/libcapi.a). A run of words goes
 //! over as pointer and length; the wrappers take slices, so that a caller cannot hand over anything else.
 
 /// A coordinate found: finding 0 and the value, -1 and none, otherwise the refusal.

@@ -1,2 +1,3 @@
+pub mod Filled
 pub mod Printed
 pub mod Whole

@@ -6,7 +6,7 @@ use native.Mathlib.Omega.{arith}
 use lib.IntN.{ℤ}
 use lib.ListN.{length, take, drop, length-take, length-append}
 use lib.Seq.{take_at, length-take-le}
-use Rattle.io.specs.Counts.{IsPrefixLen}
+use Rattle.room.specs.Counts.{IsPrefixLen}
 use Rattle.stores.specs.Put.{Put}
 use Rattle.stores.proofs.Puts.{put_as, put-length}
 use Rattle.sheet.specs.Layout.{table_most}

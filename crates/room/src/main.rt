@@ -4,14 +4,14 @@
 mod input; // input.rt: reading standard input
 
 ghost use Rattle.std.specs.Prelude.{take};
-ghost use Rattle.io.specs.Counts.{IsPrefixLen};
 ghost use Rattle.stores.specs.Put.{Put};
 ghost use Rattle.sheet.specs.Layout.{table_most};
 ghost use Rattle.sheet.specs.Text.{printed};
 ghost use Rattle.room.specs.Answers.{printed_of, response};
+ghost use Rattle.room.specs.Counts.{IsPrefixLen};
 
-use libc::STDOUT_FILENO;
 use sheet::Settling;
+use std::io;
 use text::TEXT_BYTES;
 
 // The bytes of room for a text: one more than it may have. A text that fills them is too long, whatever follows.
@@ -65,12 +65,13 @@ fn respond(text: &[u8], whole: bool, out: &mut [u8; ANSWER]) -> usize
     answer(text, out)
 }
 
-fn main() {
+// A failed write ends the program with its error.
+fn main(rt: HostRuntime) -> io::Result<()> {
     let mut text = [0u8; TEXT];
     let mut out = [0u8; ANSWER];
-    let x = input::read_input(&mut text);
+    let x = input::read_input(&mut rt.stdin(), &mut text);
     let n = x.len;
     let whole = x.whole;
     let m = respond(&text[..n], whole, &mut out);
-    io::write_all(STDOUT_FILENO, &out[..m]);
+    rt.write_all(&out[..m])
 }

@@ -22,7 +22,7 @@ mod squares; // squares.rt: five squares in a room
 mod tally; // tally.rt: what is counted
 
 use generate::{BLOCK, WORDS};
-use libc::STDOUT_FILENO;
+use std::io;
 use tally::Tally;
 
 // How many small and how many larger sheets are tried, and how many rooms, crowds and tight rooms.
@@ -67,81 +67,90 @@ fn sheets(kind: usize, n: usize, first: usize) -> Tally {
 // ---- what is printed
 
 // A text and a number.
-fn print(text: &[u8], n: u64) {
-    io::write_all(STDOUT_FILENO, text);
-    io::print_decimal(STDOUT_FILENO, n);
+fn print(rt: &impl Print, text: &str, n: u64) -> io::Result<()> {
+    print!(rt; "{text}{n}")
 }
 
-fn print_run(text: &[u8], t: Tally) {
-    print(text, t.run);
-    print(b" run, ", t.differ);
-    io::write_all(STDOUT_FILENO, b" differ\n");
+fn print_run(rt: &impl Print, text: &str, t: Tally) -> io::Result<()> {
+    print(rt, text, t.run)?;
+    print(rt, " run, ", t.differ)?;
+    println!(rt; " differ")
 }
 
-fn print_sheets(text: &[u8], t: Tally) {
-    print(text, t.run);
-    print(b" (refused ", t.refused);
-    print(b", too large ", t.large);
-    print(b", settled ", t.settled);
-    print(b", of these moved ", t.moved);
-    print(b", no layout ", t.none);
-    io::write_all(STDOUT_FILENO, b")\n");
+fn print_sheets(rt: &impl Print, text: &str, t: Tally) -> io::Result<()> {
+    print(rt, text, t.run)?;
+    print(rt, " (refused ", t.refused)?;
+    print(rt, ", too large ", t.large)?;
+    print(rt, ", settled ", t.settled)?;
+    print(rt, ", of these moved ", t.moved)?;
+    print(rt, ", no layout ", t.none)?;
+    println!(rt; ")")
 }
 
-fn print_placements(text: &[u8], t: Tally) {
-    print(text, t.good);
-    print(b", not good ", t.bad);
+fn print_placements(rt: &impl Print, text: &str, t: Tally) -> io::Result<()> {
+    print(rt, text, t.good)?;
+    print(rt, ", not good ", t.bad)
 }
 
-fn print_fills(t: Tally) {
-    print(b"\nfills: found ", t.filled);
-    print(b", with a cell in several boxes ", t.shared);
+fn print_fills(rt: &impl Print, t: Tally) -> io::Result<()> {
+    print(rt, "\nfills: found ", t.filled)?;
+    print(rt, ", with a cell in several boxes ", t.shared)
 }
 
-fn print_firsts(t: Tally) {
-    print(b"first layouts: placed ", t.placed);
-    print(b", none ", t.unplaced);
+fn print_firsts(rt: &impl Print, t: Tally) -> io::Result<()> {
+    print(rt, "first layouts: placed ", t.placed)?;
+    print(rt, ", none ", t.unplaced)
 }
 
-fn print_layouts(text: &[u8], t: Tally) {
-    print(text, t.run);
-    io::write_all(STDOUT_FILENO, b", ");
-    print_firsts(t);
-    print_compared(b"\ncomparisons: ", t);
+fn print_layouts(rt: &impl Print, text: &str, t: Tally) -> io::Result<()> {
+    print(rt, text, t.run)?;
+    print!(rt; ", ")?;
+    print_firsts(rt, t)?;
+    print_compared(rt, "\ncomparisons: ", t)
 }
 
-fn print_compared(text: &[u8], t: Tally) {
-    print(text, t.compared);
-    print(b", differences: ", t.differ);
-    io::write_all(STDOUT_FILENO, b"\n");
+fn print_compared(rt: &impl Print, text: &str, t: Tally) -> io::Result<()> {
+    print(rt, text, t.compared)?;
+    print(rt, ", differences: ", t.differ)?;
+    println!(rt; "")
 }
 
-fn main() {
-    print_run(b"rotations: ", rotations::all());
-    print_run(b"positions: ", sheets(plan::POSITION, edges::POSITIONS, 1));
+// A failed write ends the trial with its error.
+fn main(rt: HostRuntime) -> io::Result<()> {
+    print_run(&rt, "rotations: ", rotations::all())?;
+    print_run(
+        &rt,
+        "positions: ",
+        sheets(plan::POSITION, edges::POSITIONS, 1),
+    )?;
     let t = sheets(plan::SMALL, SHEETS, 88172645463325252);
-    print_sheets(b"sheets: ", t);
-    print_placements(b"placements: good ", t);
-    print(b"\nrelations: found ", t.related);
-    print(b", kinds ", tally::kinds_of(t));
-    print_fills(t);
-    print(b"\ntiny sheets: ", t.tiny);
-    print(b", good placements inside what was settled ", t.inside);
-    io::write_all(STDOUT_FILENO, b"\n");
-    print_firsts(t);
-    print_compared(b"\ncomparisons: ", t);
+    print_sheets(&rt, "sheets: ", t)?;
+    print_placements(&rt, "placements: good ", t)?;
+    print(&rt, "\nrelations: found ", t.related)?;
+    print(&rt, ", kinds ", tally::kinds_of(t))?;
+    print_fills(&rt, t)?;
+    print(&rt, "\ntiny sheets: ", t.tiny)?;
+    print(&rt, ", good placements inside what was settled ", t.inside)?;
+    println!(rt; "")?;
+    print_firsts(&rt, t)?;
+    print_compared(&rt, "\ncomparisons: ", t)?;
     let l = sheets(plan::LARGER, LARGER, 362436069362436069);
-    print_sheets(b"larger sheets: ", l);
-    print_compared(b"comparisons: ", l);
+    print_sheets(&rt, "larger sheets: ", l)?;
+    print_compared(&rt, "comparisons: ", l)?;
     let r = sheets(plan::ROOM, ROOMS, 521288629521288629);
-    print(b"rooms: ", r.run);
-    print_placements(b", placements: good ", r);
-    print_fills(r);
-    print_compared(b"\ncomparisons: ", r);
-    print_layouts(b"crowds: ", sheets(plan::CROWD, CROWDS, 123456789123456789));
+    print(&rt, "rooms: ", r.run)?;
+    print_placements(&rt, ", placements: good ", r)?;
+    print_fills(&rt, r)?;
+    print_compared(&rt, "\ncomparisons: ", r)?;
     print_layouts(
-        b"tight rooms: ",
+        &rt,
+        "crowds: ",
+        sheets(plan::CROWD, CROWDS, 123456789123456789),
+    )?;
+    print_layouts(
+        &rt,
+        "tight rooms: ",
         sheets(plan::TIGHT, TIGHT, 987654321987654321),
-    );
-    print_compared(b"five squares, comparisons: ", squares::both());
+    )?;
+    print_compared(&rt, "five squares, comparisons: ", squares::both())
 }

@@ -1,12 +1,5 @@
 -- `respond` meets its contract. Assumes nothing.
-use mathlib.Core.Path.{◌≡◌}
-use native.Mathlib.Omega.{arith}
-use borrow.Author.Rules.{rules}
-use borrow.Author.Tests.{not-true, not-false}
-use mathlib.Core.List.{[], ◌∷◌, ◌++◌}
-use Prim.Native.Nat.{◌≤◌}
-use lib.ListN.{length}
-use lib.IntN.{pos}
+use Rattle.std.proofs.Common.{rules, ◌≡◌, ◌≤◌, [], ◌∷◌, ◌++◌, arith, length, pos}
 use Rattle.sheet.specs.Text.{ascii, commas}
 use Rattle.sheet.specs.declared.Settling.TheVariants.{Refused}
 use Rattle.room.specs.Answers.{answer_most, printed_of, response}
@@ -14,25 +7,20 @@ use Rattle.room.proofs.Printed.{printed-few}
 use Rattle.room.proofs.Whole.{put-counts}
 use Rattle.room.proofs.respond.Goals as goal
 
-pub put_refused-requires : goal.put_refused-requires
-put_refused-requires c = tt
-
 -- the refusal's bytes have room
 refused-few : length (ascii "REFUSED" ++ commas (pos 1 ∷ [])) ≤ answer_most
 unfolding printed_of
 refused-few = printed-few (Refused (pos 1)) [] [] (omega arith)
 
-pub returns-then-not-whole : goal.returns-then-not-whole
+pub returns-then-not-whole-clause-put : goal.returns-then-not-whole-clause-put
 unfolding response
-returns-then-not-whole c =
+returns-then-not-whole-clause-put c = rw c.if-not-whole.true c.put_refused.ensures
+
+pub returns-then-not-whole-clause-prefix_len : goal.returns-then-not-whole-clause-prefix_len
+returns-then-not-whole-clause-prefix_len c =
     let room : length c.args.out.now ≡ answer_most = search rules in
-    rw (not-true c.args.whole c.if-not-whole.true-raw)
-    (c.put_refused.ensures, put-counts c.put_refused.ensures (omega (arith, refused-few)))
+    put-counts c.put_refused.ensures (omega (arith, refused-few))
 
-pub answer-requires : goal.answer-requires
-answer-requires c = tt
-
-pub returns : goal.returns
+pub returns-clause-put : goal.returns-clause-put
 unfolding response
-returns c =
-    rw (not-false c.args.whole c.if-not-whole.false-raw) c.answer.ensures
+returns-clause-put c = rw c.if-not-whole.false c.answer.ensures.put

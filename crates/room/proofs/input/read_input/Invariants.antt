@@ -1,16 +1,12 @@
--- `input::read_input` meets its contract: so far n bytes are read, and as many as were lent are there. Assumes nothing.
-use mathlib.Core.Path.{◌≡◌, refl, sym}
-use mathlib.Core.List.{List}
-use Prim.Native.Nat.{ℕ, ◌+◌, ◌-◌, ◌≤◌}
-use native.Mathlib.Omega.{arith}
-use borrow.Author.Rules.{rules}
-use lib.ListN.{length, drop, length-take, length-drop}
-use lib.Seq.{length-take-le}
-use Rattle.io.specs.Counts.{IsPrefixLen}
+-- `input::read_input` meets its contract: so far n bytes are read, those that the reader had first, and as many as were lent are there.
+-- Assumes nothing.
+use Rattle.std.proofs.Common.{◌-◌, ◌≡◌, ◌≤◌, take, length}
+use Rattle.std.specs.Io.KnownBytes.{Consumes}
 use Rattle.room.proofs.input.read_input.Given as goal
 
 abbrev pub invariant-loop-n : goal.invariant-loop-n
-invariant-loop-n l = (length l.text ≡ length l.initial.text) × (l.n ≤ length l.initial.text)
+invariant-loop-n g l = (length l.text ≡ length l.initial.text) × (l.n ≤ length l.initial.text)
+    × Consumes (g.R.Read.remaining l.initial.reader) (g.R.Read.remaining l.reader) (take l.n l.text)
 
 abbrev pub decreases-loop-n : goal.decreases-loop-n
-decreases-loop-n l = length l.initial.text - l.n
+decreases-loop-n g l = length l.initial.text - l.n

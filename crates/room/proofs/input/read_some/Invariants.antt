@@ -1,22 +1,10 @@
--- `input::read_some` meets its contract: each try leaves as many bytes as were lent, and one that does not fail moved at most so many.
--- Assumes nothing.
-use mathlib.Core.Path.{◌≡◌, refl, subst}
-use Prim.Native.Nat.{ℕ, ◌-◌, ◌≤◌, ◌<◌}
-use native.Mathlib.Omega.{arith}
-use borrow.Author.Rules.{rules}
-use lib.ListN.{length}
-use lib.IntN.{ℤ, pos, negsuc, nat_abs}
-use lib.Signed.{◌≤ℤ◌}
-use mir.Syntax.{w64}
-use mir.Val.{SFits}
-use mir.Facts.{to_z-of_z}
-use Rattle.integers.proofs.Ints.{ints}
-use Rattle.integers.proofs.Machine.{cast_ok}
-use Rattle.libc.specs.Io.{Moved}
+-- `input::read_some` meets its contract: each try leaves as many bytes as were lent, and what the reader has left. Assumes nothing.
+use Rattle.std.proofs.Common.{◌-◌, ◌≡◌, length}
+use Rattle.std.specs.Io.KnownBytes.{Keeps}
 use Rattle.room.proofs.input.read_some.Given as goal
 
 abbrev pub invariant-loop-tries : goal.invariant-loop-tries
-invariant-loop-tries l = length l.buf ≡ length l.initial.buf
+invariant-loop-tries g l = (length l.buf ≡ length l.initial.buf) × Keeps (g.R.Read.remaining l.initial.reader) (g.R.Read.remaining l.reader)
 
 abbrev pub decreases-loop-tries : goal.decreases-loop-tries
-decreases-loop-tries l = 1000000 - l.tries
+decreases-loop-tries g l = 1000000 - l.tries

@@ -28,3 +28,10 @@ pub mod Rounding
 pub mod Fill
 pub mod Cells
 pub mod Counted
+pub mod PositionsPass
+pub mod TextsPass
+pub mod StandingsPass
+pub mod ClearancesPass
+pub mod SeveralPass
+pub mod FillsPass
+pub mod LayoutsPass

@@ -1,12 +1,12 @@
 -- Clearances in cases with numbers (document 02, T-02): the interval that grows at both ends, boxes that are clear in one of two dimensions,
--- two rules over the same rows in both orders, rooms, and the limits of the words; and the theorem that every case passes. Assumes nothing.
-use Rattle.std.specs.Prelude.{Bool, true, false, ◌&&◌, List, [], ◌∷◌, ◌++◌, ℕ, T, eqb, ℤ, pos}
+-- two rules over the same rows in both orders, rooms, and the limits of the words. That every case passes is proofs/ClearancesPass.antt.
+-- Assumes nothing.
+use Rattle.std.specs.Prelude.{Bool, true, false, List, [], ◌∷◌, ◌++◌, ℕ, eqb, ℤ, pos}
 use Rattle.std.proofs.Math.Option.{none, some}
 use Rattle.integers.specs.Integer.{minus}
-use Rattle.sheet.specs.Computing.{computing}
 use Rattle.sheet.specs.Refusal.{refusal}
-use Rattle.sheet.specs.Positions.{Case, has_least, forbids, settles, is_good, same_table, same_number, same_truth, forbids_only, answered}
-use Rattle.sheet.specs.Positions.{passes, all_pass, words, row, row2, boxes_from, ab_rows, case}
+use Rattle.sheet.specs.Positions.{Case, has_least, forbids, settles, is_good}
+use Rattle.sheet.specs.Positions.{words, row, row2, boxes_from, ab_rows, case}
 
 -- ---- the sheets
 -- k = 1: A, shape 1 of size 3, and B, shape 2 of size 2, one unit apart
@@ -57,19 +57,6 @@ clearance_positions =
     ∷ case (room_apart 4) (row 1 (pos 0) (pos 2) ++ row 1 (pos 0) (pos 2)) (settles none)
     ∷ []
 
--- THE POSITIONS: the checker computes that every case passes
-pub clearances-pass : T (all_pass clearance_positions)
-unfolding computing same_table same_number same_truth forbids_only answered passes all_pass words row row2 boxes_from ab_rows ab_apart twice
-    room_apart squares squares_at unit_apart clearance_positions
-clearances-pass = tt
-
 -- ---- the limits: the ground that the squares' rule with these words meets, or 0
 unfoldable pub ground_is : ℕ → ℕ → List ℤ → Bool
 ground_is g set ends = eqb (refusal (squares set ends) (squares_at 9 9)) g
-
--- 1,000 is accepted in a named dimension; 1,001, −1, a high word and a word of a dimension that is not named are ground 7
-pub limits-pass : T (ground_is 0 1 (words (1000 ∷ 0 ∷ 0 ∷ 0 ∷ [])) && ground_is 7 1 (words (1001 ∷ 0 ∷ 0 ∷ 0 ∷ []))
-    && ground_is 7 1 (minus 1 ∷ words (0 ∷ 0 ∷ 0 ∷ [])) && ground_is 7 1 (words (0 ∷ 1 ∷ 0 ∷ 0 ∷ [])) && ground_is 7 1 (words (0 ∷ 0 ∷ 3 ∷ 0 ∷ []))
-    && ground_is 7 1 (words (0 ∷ 0 ∷ 0 ∷ 3 ∷ [])) && ground_is 0 3 (words (0 ∷ 0 ∷ 1000 ∷ 0 ∷ [])) && ground_is 7 3 (words (0 ∷ 0 ∷ 1001 ∷ 0 ∷ [])))
-unfolding computing words row2 squares squares_at ground_is
-limits-pass = tt

@@ -1,10 +1,8 @@
 -- The first whole layout in cases with numbers (document 02, T-06): the order of placements, and sheets on which settling leaves ranges whose
--- low ends lie in no placement; where check 16 stands; and the theorems that every case passes. Assumes nothing.
-use Rattle.std.specs.Prelude.{◌&&◌, List, [], ◌∷◌, ◌++◌, ℕ, T, eqb, ℤ, pos}
+-- low ends lie in no placement. That every case passes, and where check 16 stands, is proofs/LayoutsPass.antt. Assumes nothing.
+use Rattle.std.specs.Prelude.{List, [], ◌∷◌, ◌++◌, ℕ, ℤ, pos}
 use Rattle.std.proofs.Math.Option.{none, some}
-use Rattle.sheet.specs.Computing.{computing}
-use Rattle.sheet.specs.Refusal.{refusal_layout}
-use Rattle.sheet.specs.Positions.{Case, settles, places_first, same_table, answered, passes, all_pass, words, row, row2, boxes_from, line, room}
+use Rattle.sheet.specs.Positions.{Case, settles, places_first, words, row, row2, line, room}
 use Rattle.sheet.specs.Positions.{case}
 
 -- ---- the sheets
@@ -38,16 +36,3 @@ layout_positions =
     ∷ case (line (2 ∷ []) 1 7) (open_to (6 ∷ 3 ∷ 3 ∷ [])) (places_first (some (stand_at (4 ∷ 0 ∷ 2 ∷ []))))
     ∷ case bars (row2 1 0 6 0 0 ++ row2 1 0 2 0 0 ++ row2 1 0 2 0 0) (places_first (some (row2 1 4 4 0 0 ++ row2 1 0 0 0 0 ++ row2 1 2 2 0 0)))
     ∷ []
-
-pub layouts-pass : T (all_pass layout_positions)
-unfolding computing same_table answered passes all_pass words row row2 boxes_from line room bars open_to stand_at layout_positions
-layouts-pass = tt
-
--- ---- check 16: eight rows pass, nine do not; of nine rows, one of which is bad, it is 8
-pub limits-pass : T (
-    eqb (refusal_layout (line (2 ∷ []) 1 3) (open_to (9 ∷ 9 ∷ 9 ∷ 9 ∷ 9 ∷ 9 ∷ 9 ∷ 9 ∷ []))) 0
-    && eqb (refusal_layout (line (2 ∷ []) 1 3) (open_to (9 ∷ 9 ∷ 9 ∷ 9 ∷ 9 ∷ 9 ∷ 9 ∷ 9 ∷ 9 ∷ []))) 16
-    && eqb (refusal_layout (line (2 ∷ []) 1 3) (open_to (9 ∷ 9 ∷ 9 ∷ 9 ∷ 9 ∷ 9 ∷ 9 ∷ 9 ∷ []) ++ row 1 (pos 1) (pos 0))) 8
-    )
-unfolding computing words row boxes_from line open_to
-limits-pass = tt

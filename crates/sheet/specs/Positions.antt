@@ -1,12 +1,11 @@
 -- Document 01's marked positions, in its order, then the sheet of its text program, one that a single pass over the rows gets wrong, and
--- the marked position of document 02's T-05; and the theorem that every case passes. Assumes nothing.
-use Rattle.std.specs.Prelude.{Bool, true, false, not, cond, ◌&&◌, List, [], ◌∷◌, ◌++◌, map, ℕ, zero, suc, ◌^◌, T, eqb, take, drop, ℤ, pos, ◌+ℤ◌}
+-- the marked position of document 02's T-05. That every case passes is proofs/PositionsPass.antt. Assumes nothing.
+use Rattle.std.specs.Prelude.{Bool, true, false, not, cond, ◌&&◌, List, [], ◌∷◌, ◌++◌, map, ℕ, zero, suc, ◌^◌, eqb, take, drop, ℤ, pos, ◌+ℤ◌}
 use Rattle.std.proofs.Math.Option.{Option, none, some}
 use Rattle.integers.specs.Integer.{minus, eq_z, within, width}
 use Rattle.integers.specs.Below.{all_below, sum_below}
 use Rattle.integers.specs.Bits.{bit}
 use Rattle.integers.specs.Words.{word, same_words}
-use Rattle.sheet.specs.Computing.{computing}
 use Rattle.sheet.specs.Layout.{row_len, rows}
 use Rattle.sheet.specs.Allowed.{forbid_from, forbid_to, forbidden}
 use Rattle.sheet.specs.Placement.{good, catalogue_good}
@@ -193,9 +192,3 @@ positions =
     -- A at 0 with sizes 3 or 4, B of size 2 in −1..5: least 3
     ∷ case (line (3 ∷ 4 ∷ 2 ∷ []) 3 3) (row 3 (pos 0) (pos 0) ++ row 4 (minus 1) (pos 5)) (has_least 2 3 (some (pos 3)))
     ∷ []
-
--- THE MARKED POSITIONS: the checker computes that every case passes
-pub positions-pass : T (all_pass positions)
-unfolding computing same_table same_number same_truth forbids_only count_ranges count_rows placements_by answered passes all_pass words
-    row row2 boxes_from line room ab ab_rows three_rows text_sheet catalogue placed positions
-positions-pass = tt

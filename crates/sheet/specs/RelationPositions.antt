@@ -1,13 +1,12 @@
--- How rows stand to each other in cases with numbers (document 02, T-01), both ways round; shapes of several boxes; the refusals in their
--- order; and the theorem that every case passes. Assumes nothing.
-use Rattle.std.specs.Prelude.{Bool, true, false, List, [], ◌∷◌, ◌++◌, ℕ, zero, suc, T, eqb, ℤ, pos}
+-- How rows stand to each other in cases with numbers (document 02, T-01), both ways round; shapes of several boxes; and the refusals in
+-- their order. That every case passes is proofs/StandingsPass.antt. Assumes nothing.
+use Rattle.std.specs.Prelude.{Bool, true, false, List, [], ◌∷◌, ◌++◌, ℕ, zero, suc, eqb, ℤ, pos}
 use Rattle.integers.specs.Integer.{minus, nat}
 use Rattle.sheet.specs.declared.Allen.{Allen}
 use Rattle.sheet.specs.declared.Allen.TheVariants as A
-use Rattle.sheet.specs.Computing.{computing}
 use Rattle.sheet.specs.Refusal.{refusal_relation}
 use Rattle.sheet.specs.Relation.{relation_number, relation_of}
-use Rattle.sheet.specs.Positions.{words, row, row2, boxes_from, line}
+use Rattle.sheet.specs.Positions.{words, row, row2, line}
 
 -- ---- what is asked, and the answer
 pub data Expected : Type 0 where
@@ -100,8 +99,3 @@ standings =
     ∷ case square (fixed_rows ++ words (1 ∷ [])) (pos 1) (pos 4) (pos 5) (refused_by 5)
     ∷ []
     )
-
--- THE CASES OF T-01: the checker computes that every one passes
-pub standings-pass : T (all_found standings)
-unfolding computing is_found all_found words row row2 boxes_from line long_and_short long_at two_boxes square fixed_rows open_row standings
-standings-pass = tt

@@ -1,13 +1,12 @@
 -- Rows with several shapes in cases with numbers (document 02, T-05): what every shape of a set forbids and one alone does not, pairs of
--- boxes that differ from shape to shape, a clearance, and rules that are never joined; and the theorems that every case passes.
+-- boxes that differ from shape to shape, a clearance, and rules that are never joined. That every case passes is proofs/SeveralPass.antt.
 -- Assumes nothing.
-use Rattle.std.specs.Prelude.{Bool, ◌&&◌, List, [], ◌∷◌, ◌++◌, ℕ, T, eqb, ℤ, pos}
+use Rattle.std.specs.Prelude.{Bool, ◌&&◌, List, [], ◌∷◌, ◌++◌, ℕ, eqb, ℤ, pos}
 use Rattle.std.proofs.Math.Option.{some}
 use Rattle.integers.specs.Integer.{minus}
-use Rattle.sheet.specs.Computing.{computing}
 use Rattle.sheet.specs.Refusal.{refusal}
-use Rattle.sheet.specs.Positions.{Case, has_least, narrows, settles, same_table, same_number, same_truth, forbids_only, answered}
-use Rattle.sheet.specs.Positions.{passes, all_pass, words, row, row2, boxes_from, line, case}
+use Rattle.sheet.specs.Positions.{Case, has_least, narrows, settles, forbids_only}
+use Rattle.sheet.specs.Positions.{words, row, row2, boxes_from, line, case}
 
 -- ---- the sheets
 -- k = 1: boxes, each a shape, an offset and a size, and rows 1 and 2 apart
@@ -62,16 +61,6 @@ several_positions =
     ∷ case three_apart (row 3 (pos 0) (pos 0) ++ row 3 (pos 3) (pos 3) ++ row 4 (pos 3) (pos 3)) (has_least 3 3 (some (pos 3)))
     ∷ []
 
-pub several-pass : T (all_pass several_positions)
-unfolding computing same_table same_number same_truth answered passes all_pass words row row2 boxes_from line boxed either unit_apart
-    gapped own_boxes two_rules three_apart several_positions
-several-pass = tt
-
 -- of the numbers from −10 to 10 row 1 forbids row 2 with shape 3 these alone
 unfoldable pub spans : List ℤ → ℤ → ℤ → Bool
 spans block from to = eqb (refusal block (either 4 (minus 10) (pos 10))) 0 && forbids_only block (either 4 (minus 10) (pos 10)) 2 3 from to
-
--- [0, 2) or [1, 3): only 1; [0, 1) or [1, 2): none
-pub spans-pass : T (spans shifted (pos 1) (pos 1) && spans beside (pos 1) (pos 0))
-unfolding computing same_truth forbids_only words row boxed either shifted beside spans
-spans-pass = tt

@@ -1,9 +1,9 @@
--- Texts with what reading finds for them, and the sheet of document 01 with what the program prints: the form's edges and the open
--- points that docs/DECISIONS.md decides; and the theorems that every case is as it says. Assumes nothing.
-use Rattle.std.specs.Prelude.{◌≡◌, refl, Bool, true, false, List, [], ◌∷◌, ℕ, T, eqb}
+-- Texts with what reading finds for them: the form's edges and the open points that docs/DECISIONS.md decides; and the sheet of document 01
+-- and one with no layout. That every case is as it says, and what the program prints for these sheets, is proofs/TextsPass.antt.
+-- Assumes nothing.
+use Rattle.std.specs.Prelude.{Bool, true, false, List, [], ◌∷◌, ℕ, eqb}
 use Prim.Native.String as S
-use Rattle.sheet.specs.Computing.{computing}
-use Rattle.sheet.specs.Text.{ascii, refusal_text, printed}
+use Rattle.sheet.specs.Text.{ascii, refusal_text}
 
 pub record TextCase : Type 0 where
   pub text : List ℕ
@@ -52,25 +52,9 @@ texts =
     ∷ case "K,1\nB,33,0,2\nO,1,0,0\n" 6
     ∷ []
 
--- what the program prints for the sheet of document 01, for one with no layout, and for a refused one
+-- the sheet of document 01, and one with no layout
 unfoldable pub example : List ℕ
 example = ascii "K,2\nB,1,0,0,2,2\nR,1,3,3,0,0,0,0\nR,2,3,3,0,4,0,2\nO,1,0,0,0,0\nO,1,0,3,0,3\n"
 
 unfoldable pub too_small : List ℕ
 too_small = ascii "K,1\nB,1,0,2\nR,1,1,3,0,0\nR,2,1,3,0,3\nO,1,0,1\nO,1,0,1\n"
-
-pub texts-pass : T (all_refused texts)
-unfolding computing all_refused texts
-texts-pass = tt
-
-pub example-printed : printed example ≡ ascii "SETTLED,2\n1,1,0,0,0,0\n2,1,2,2,0,0\n"
-unfolding computing example
-example-printed = refl
-
-pub no-layout-printed : printed too_small ≡ ascii "NO LAYOUT\n"
-unfolding computing too_small
-no-layout-printed = refl
-
-pub refusal-printed : printed (ascii "K,5\n") ≡ ascii "REFUSED,2\n"
-unfolding computing
-refusal-printed = refl

@@ -10,17 +10,15 @@ use Rattle.capi.proofs.bound_finding.Goals as goal
 pub returns-in-At : goal.returns-in-At
 unfolding bound_finding
 returns-in-At c =
-    let told = c.x-1.given in
-    let f : SFits w64 told.0.0 = search rules in
-    rw (told.1, to_z-of_z f)
+    let f : SFits w64 c.in-At.z = search rules in
+    rw (c.in-At.is, to_z-of_z f)
 
 pub returns-in-Nothing : goal.returns-in-Nothing
 unfolding bound_finding
-returns-in-Nothing c = rw c.enum_told-1.given.1 c.no_bound.ensures
+returns-in-Nothing c = rw c.in-Nothing.is c.no_bound.ensures
 
 pub returns-in-Refused : goal.returns-in-Refused
 unfolding bound_finding
 returns-in-Refused c =
-    let told = c.x-in-Refused-1.given in
-    let f : SFits w64 told.0.0 = search rules in
-    rw told.1 (c.no_bound-in-Refused.ensures ∙ ap no_bound (to_z-of_z f))
+    let f : SFits w64 c.in-Refused.g = search rules in
+    rw c.in-Refused.is (c.no_bound-in-Refused.ensures ∙ ap no_bound (to_z-of_z f))

@@ -8,15 +8,14 @@ use Rattle.capi.proofs.layout_finding.Goals as goal
 
 pub returns-in-Placed : goal.returns-in-Placed
 unfolding layout_finding
-returns-in-Placed c = rw c.enum_told-1.given.1
+returns-in-Placed c = rw c.in-Placed.is
 
 pub returns-in-Nothing : goal.returns-in-Nothing
 unfolding layout_finding
-returns-in-Nothing c = rw c.enum_told-in-Nothing-1.given.1
+returns-in-Nothing c = rw c.in-Nothing.is
 
 pub returns-in-Refused : goal.returns-in-Refused
 unfolding layout_finding
 returns-in-Refused c =
-    let told = c.x-1.given in
-    let f : SFits w64 told.0.0 = search rules in
-    rw told.1 (to_z-of_z f)
+    let f : SFits w64 c.in-Refused.g = search rules in
+    rw c.in-Refused.is (to_z-of_z f)

@@ -8,15 +8,14 @@ use Rattle.capi.proofs.narrow_finding.Goals as goal
 
 pub returns-in-Narrowed : goal.returns-in-Narrowed
 unfolding narrow_finding
-returns-in-Narrowed c = rw c.enum_told-1.given.1
+returns-in-Narrowed c = rw c.in-Narrowed.is
 
 pub returns-in-NoPlace : goal.returns-in-NoPlace
 unfolding narrow_finding
-returns-in-NoPlace c = rw c.enum_told-in-NoPlace-1.given.1
+returns-in-NoPlace c = rw c.in-NoPlace.is
 
 pub returns-in-Refused : goal.returns-in-Refused
 unfolding narrow_finding
 returns-in-Refused c =
-    let told = c.x-1.given in
-    let f : SFits w64 told.0.0 = search rules in
-    rw told.1 (to_z-of_z f)
+    let f : SFits w64 c.in-Refused.g = search rules in
+    rw c.in-Refused.is (to_z-of_z f)

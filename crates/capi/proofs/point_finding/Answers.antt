@@ -8,15 +8,14 @@ use Rattle.capi.proofs.point_finding.Goals as goal
 
 pub returns-in-Allowed : goal.returns-in-Allowed
 unfolding point_finding
-returns-in-Allowed c = rw c.enum_told-1.given.1
+returns-in-Allowed c = rw c.in-Allowed.is
 
 pub returns-in-NotAllowed : goal.returns-in-NotAllowed
 unfolding point_finding
-returns-in-NotAllowed c = rw c.enum_told-in-NotAllowed-1.given.1
+returns-in-NotAllowed c = rw c.in-NotAllowed.is
 
 pub returns-in-Refused : goal.returns-in-Refused
 unfolding point_finding
 returns-in-Refused c =
-    let told = c.x-1.given in
-    let f : SFits w64 told.0.0 = search rules in
-    rw told.1 (to_z-of_z f)
+    let f : SFits w64 c.in-Refused.g = search rules in
+    rw c.in-Refused.is (to_z-of_z f)

@@ -8,15 +8,14 @@ use Rattle.capi.proofs.settle_finding.Goals as goal
 
 pub returns-in-Settled : goal.returns-in-Settled
 unfolding settle_finding
-returns-in-Settled c = rw c.enum_told-1.given.1
+returns-in-Settled c = rw c.in-Settled.is
 
 pub returns-in-NoLayout : goal.returns-in-NoLayout
 unfolding settle_finding
-returns-in-NoLayout c = rw c.enum_told-in-NoLayout-1.given.1
+returns-in-NoLayout c = rw c.in-NoLayout.is
 
 pub returns-in-Refused : goal.returns-in-Refused
 unfolding settle_finding
 returns-in-Refused c =
-    let told = c.x-1.given in
-    let f : SFits w64 told.0.0 = search rules in
-    rw told.1 (to_z-of_z f)
+    let f : SFits w64 c.in-Refused.g = search rules in
+    rw c.in-Refused.is (to_z-of_z f)

@@ -11,11 +11,10 @@ pub returns-in-Bears : goal.returns-in-Bears
 unfolding standing_finding
 returns-in-Bears c =
     let n = c.relation_number in
-    rw (c.x-1.given.1, read_back n.ensures n.type_inv, c.known_told-1.given.1)
+    rw (c.in-Bears.is, read_back n.ensures n.type_inv)
 
 pub returns-in-Refused : goal.returns-in-Refused
 unfolding standing_finding
 returns-in-Refused c =
-    let told = c.x-in-Refused-1.given in
-    let f : SFits w64 told.0.0 = search rules in
-    rw (told.1, to_z-of_z f)
+    let f : SFits w64 c.in-Refused.g = search rules in
+    rw (c.in-Refused.is, to_z-of_z f)

@@ -8,15 +8,14 @@ use Rattle.capi.proofs.verdict_finding.Goals as goal
 
 pub returns-in-Good : goal.returns-in-Good
 unfolding verdict_finding
-returns-in-Good c = rw c.enum_told-1.given.1
+returns-in-Good c = rw c.in-Good.is
 
 pub returns-in-NotGood : goal.returns-in-NotGood
 unfolding verdict_finding
-returns-in-NotGood c = rw c.enum_told-in-NotGood-1.given.1
+returns-in-NotGood c = rw c.in-NotGood.is
 
 pub returns-in-Refused : goal.returns-in-Refused
 unfolding verdict_finding
 returns-in-Refused c =
-    let told = c.x-1.given in
-    let f : SFits w64 told.0.0 = search rules in
-    rw told.1 (to_z-of_z f)
+    let f : SFits w64 c.in-Refused.g = search rules in
+    rw c.in-Refused.is (to_z-of_z f)

@@ -2,7 +2,7 @@
 -- `narrow i t` is t with row i narrowed (rows count from 0; `none` is 'no place'), `same` tests two tables for equality, n is the
 -- number of rows. What `let` binds is computed only where it is read, so a pass that changes nothing is the last. Assumes nothing.
 use Rattle.std.specs.Prelude.{Bool, cond, ℕ, zero, suc}
-use Rattle.std.proofs.Math.Option.{Option, none, some}
+use Rattle.std.proofs.Math.Option.{Option, some}
 unfoldable pub use Rattle.std.proofs.Math.Option.{bind}
 
 module _ {A : Type 0} (narrow : ℕ → A → Option A) where

@@ -8,7 +8,7 @@ use Prim.Native.Nat.{ℕ}
 use native.Mathlib.Omega.{arith}
 use lib.IntN.{ℤ}
 use Rattle.sheet.specs.Refusal.{refusal}
-use Rattle.sheet.specs.Settle.{Settled, Settles, settle_of}
+use Rattle.sheet.specs.Settle.{Settles, settle_of}
 use Rattle.sheet.specs.declared.Settling.{Settling}
 use Rattle.sheet.specs.declared.Settling.TheVariants as S
 use Rattle.sheet.proofs.Demand3.{demand-3, demand-3-unique}

@@ -13,7 +13,7 @@ use lib.ListN.{length}
 use lib.IntN.{ℤ}
 use lib.Signed.{◌<ℤ◌, lt_z}
 use Rattle.integers.specs.Integer.{eq_z}
-use Rattle.integers.proofs.Booleans.{decide, not-true, not-false, passes}
+use Rattle.integers.proofs.Booleans.{decide, not-true, not-false}
 use Rattle.integers.proofs.Below.{least-view, below_or, same_or}
 use Rattle.integers.proofs.Ints.{ints, eq_z-eq}
 use Rattle.integers.proofs.Ranges.{record-ends}

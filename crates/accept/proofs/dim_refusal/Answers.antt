@@ -1,6 +1,5 @@
 -- `accept::dim_refusal` meets its contract: the shape's refusal comes first. Assumes nothing.
 use mathlib.Core.Path.{◌≡◌, ap, ap₂, ◌∙◌}
-use borrow.Author.Rules.{rules}
 use lib.IntN.{pos}
 use mir.Facts.{to_z-of_z}
 use Rattle.sheet.specs.Refusal.{no_such_dim, refusal_row, refusal_shape, refusal_dim}

@@ -1,6 +1,5 @@
 -- `accept::placement_refusal` meets its contract: the sheet's refusal comes first. Assumes nothing.
 use mathlib.Core.Path.{◌≡◌}
-use borrow.Author.Rules.{rules}
 use Rattle.sheet.specs.Refusal.{refusal, refusal_placement}
 use Rattle.sheet.proofs.Accepted.{accepted-head, accepted-table}
 use Rattle.accept.proofs.Chain.{refused-last, passed-last, else-second, refused-on, accepted}

@@ -1,6 +1,5 @@
 -- `accept::refusal` meets its contract: the checks run in the definition's order, and each leans on those before it. Assumes nothing.
 use mathlib.Core.List.{List}
-use borrow.Author.Rules.{rules}
 use lib.IntN.{ℤ}
 use Rattle.accept.proofs.Chain.{refusal-from2, refused-first, refused-last, passed-last}
 use Rattle.accept.proofs.Stages.{Passed2, Passed3, Passed4, Passed5, Passed6, Passed7, past2, past3, past4, past5, past6, past7}

@@ -1,6 +1,5 @@
 -- `accept::row_refusal` meets its contract: the sheet's refusal comes first. Assumes nothing.
 use mathlib.Core.Path.{◌≡◌, ap, ◌∙◌}
-use borrow.Author.Rules.{rules}
 use mir.Facts.{to_z-of_z}
 use Rattle.sheet.specs.Refusal.{no_such_row, refusal, refusal_row}
 use Rattle.sheet.proofs.Accepted.{accepted-head, accepted-rows}

@@ -1,6 +1,5 @@
 -- `accept::row_span` meets its contract: an accepted row lies whole in the table, where its place says. Assumes nothing.
 use mathlib.Core.Path.{◌≡◌, sym, ap, ◌∙◌}
-use borrow.Author.Rules.{rules}
 use lib.IntN.{pos, nat_abs}
 use lib.ListN.{length}
 use mir.Facts.{to_z-of_z}

@@ -1,6 +1,5 @@
 -- `accept::shape_refusal` meets its contract: the row's refusal comes first. Assumes nothing.
 use mathlib.Core.Path.{◌≡◌, ap, ap₂, ◌∙◌}
-use borrow.Author.Rules.{rules}
 use lib.IntN.{pos}
 use mir.Facts.{to_z-of_z}
 use Rattle.sheet.specs.Refusal.{no_such_shape, refusal_row, refusal_shape}

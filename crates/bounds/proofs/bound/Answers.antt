@@ -21,7 +21,6 @@ use Rattle.outline.specs.Outline.{Subject}
 use Rattle.bounds.specs.Search.{extreme_of}
 use Rattle.accept.proofs.Numbers.{row_upto}
 use Rattle.bounds.proofs.Calls.{ap₃, DimAsked, dim-asked, answer-refused}
-use borrow.Author.Rules.{rules}
 use Rattle.bounds.proofs.bound.Lts as lts
 use Rattle.bounds.proofs.bound.Reads as reads
 use Rattle.bounds.proofs.bound.Tie as tie

@@ -1,10 +1,9 @@
 -- `bounds::bound_in` meets its contract: the answer says what was found. Assumes nothing.
-use mathlib.Core.Path.{refl, sym, ap, ◌∙◌}
+use mathlib.Core.Path.{refl, ap, ◌∙◌}
 use mir.Syntax.{w64}
 use mir.Val.{SFits}
 use mir.Facts.{to_z-of_z}
 use Rattle.sheet.specs.declared.Bound.TheVariants as B
-use Rattle.bounds.specs.Search.{coordinate}
 use Rattle.bounds.proofs.Calls.{answer_at, answer-none}
 use borrow.Author.Rules.{rules}
 use Rattle.bounds.proofs.bound_in.Goals as goal

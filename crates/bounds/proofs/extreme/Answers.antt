@@ -23,7 +23,6 @@ use Rattle.outline.specs.Outline.{Subject}
 use Rattle.bounds.specs.Search.{Ahead, free_in, Sighted, coordinate, extreme_of}
 use Rattle.bounds.proofs.Sights.{sighted-there, sighted-nowhere}
 use Rattle.bounds.proofs.Cutting.{cut-extreme, cut-empty}
-use borrow.Author.Rules.{rules}
 use Rattle.bounds.proofs.extreme.Lts as lts
 use Rattle.bounds.proofs.extreme.Reads as reads
 use Rattle.bounds.proofs.extreme.Tie as tie

@@ -8,7 +8,6 @@ use Rattle.sheet.specs.Refusal.{refusal_dim}
 use Rattle.sheet.specs.Answer.{bound_answer}
 use Rattle.bounds.specs.Search.{extreme_of}
 use Rattle.bounds.proofs.Calls.{ap₃}
-use borrow.Author.Rules.{rules}
 use Rattle.bounds.proofs.least.Goals as goal
 
 pub returns : goal.returns

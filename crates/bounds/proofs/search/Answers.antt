@@ -9,7 +9,6 @@ use borrow.Author.Tests.{not-true, not-false}
 use lib.IntN.{ℤ}
 use Rattle.sheet.specs.Layout.{axes}
 use Rattle.points.proofs.Areas.{in_small}
-use Rattle.nearby.specs.Listing.{Listed}
 use Rattle.sweep.specs.declared.Sweep.{Sweep}
 use Rattle.sweep.specs.Point.{turned_end}
 use Rattle.sweep.specs.Rotation.{rotation}

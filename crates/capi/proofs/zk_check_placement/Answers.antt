@@ -2,7 +2,6 @@
 use mathlib.Core.Path.{ap, ◌∙◌}
 use Rattle.words.proofs.Reading.{read_back}
 use Rattle.capi.specs.Findings.{verdict_finding}
-use borrow.Author.Rules.{rules}
 use Rattle.capi.proofs.zk_check_placement.Goals as goal
 
 pub returns : goal.returns

@@ -2,7 +2,6 @@
 use mathlib.Core.Path.{ap, ◌∙◌}
 use mir.Facts.{to_z-of_z}
 use Rattle.capi.specs.Findings.{share_finding}
-use borrow.Author.Rules.{rules}
 use Rattle.capi.proofs.zk_fill.Goals as goal
 
 pub returns : goal.returns

@@ -3,7 +3,6 @@ use mathlib.Core.Path.{ap, ◌∙◌}
 use mir.Facts.{to_z-of_z}
 use Rattle.words.proofs.Reading.{read_back}
 use Rattle.capi.specs.Findings.{point_finding}
-use borrow.Author.Rules.{rules}
 use Rattle.capi.proofs.zk_point_allowed.Goals as goal
 
 pub returns : goal.returns

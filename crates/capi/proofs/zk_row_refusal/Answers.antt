@@ -1,5 +1,4 @@
 -- `capi::zk_row_refusal` meets its contract: what `accept::row_refusal` answers. Assumes nothing.
-use borrow.Author.Rules.{rules}
 use mir.Facts.{to_z-of_z}
 use Rattle.words.proofs.Reading.{read_back}
 use Rattle.capi.proofs.zk_row_refusal.Goals as goal

@@ -1,9 +1,6 @@
 -- `forbid::forbidding_region` meets its contract: so far no rule passed forbids the point. Assumes nothing.
 use mathlib.Core.Path.{◌≡◌}
-use mathlib.Core.Bool.{false}
-use Prim.Native.Nat.{◌≤◌, ◌-◌}
 use native.Mathlib.Omega.{arith}
-use Rattle.integers.specs.Below.{any_below}
 use Rattle.integers.proofs.Below.{any-zero}
 use Rattle.sheet.specs.Layout.{rules}
 use Rattle.sheet.specs.Allowed.{forbidden}

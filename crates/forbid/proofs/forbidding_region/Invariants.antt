@@ -2,13 +2,8 @@
 use mathlib.Core.Path.{◌≡◌}
 use mathlib.Core.Bool.{false}
 use Prim.Native.Nat.{◌≤◌, ◌-◌}
-use native.Mathlib.Omega.{arith}
 use Rattle.integers.specs.Below.{any_below}
-use Rattle.integers.proofs.Below.{any-zero}
-use Rattle.sheet.specs.Layout.{rules}
-use Rattle.sheet.specs.Allowed.{forbidden}
-use Rattle.forbid.specs.Region.{rows_forbid, rule_forbids}
-use Rattle.forbid.proofs.Regions.{missed, miss, forbids-any, none_more}
+use Rattle.forbid.specs.Region.{rule_forbids}
 use Rattle.forbid.proofs.forbidding_region.Given as goal
 
 abbrev pub invariant-loop-r : goal.invariant-loop-r

@@ -1,13 +1,9 @@
 -- `forbid::rows_region` meets its contract: so far no row passed forbids the point. Assumes nothing.
 use mathlib.Core.Path.{◌≡◌}
-use mathlib.Core.Bool.{false}
-use Prim.Native.Nat.{suc, ◌≤◌, ◌-◌}
 use native.Mathlib.Numerals.{add-one}
 use native.Mathlib.Omega.{arith}
-use Rattle.integers.specs.Below.{any_below}
 use Rattle.integers.proofs.Below.{up_next, any-zero}
 use Rattle.sheet.specs.Layout.{rows}
-use Rattle.sheet.specs.Allowed.{row_forbids}
 use Rattle.forbid.specs.Region.{rows_forbid}
 use Rattle.forbid.proofs.Regions.{missed, miss, forbids-by, none_more}
 use Rattle.forbid.proofs.Rows.{some-row}

@@ -2,15 +2,8 @@
 use mathlib.Core.Path.{◌≡◌}
 use mathlib.Core.Bool.{false}
 use Prim.Native.Nat.{suc, ◌≤◌, ◌-◌}
-use native.Mathlib.Numerals.{add-one}
-use native.Mathlib.Omega.{arith}
 use Rattle.integers.specs.Below.{any_below}
-use Rattle.integers.proofs.Below.{up_next, any-zero}
-use Rattle.sheet.specs.Layout.{rows}
 use Rattle.sheet.specs.Allowed.{row_forbids}
-use Rattle.forbid.specs.Region.{rows_forbid}
-use Rattle.forbid.proofs.Regions.{missed, miss, forbids-by, none_more}
-use Rattle.forbid.proofs.Rows.{some-row}
 use Rattle.forbid.proofs.rows_region.Given as goal
 
 abbrev pub invariant-loop-j : goal.invariant-loop-j

@@ -1,7 +1,6 @@
 -- `layout::first_layout` meets its contract: it answers the refusal, or as `first_of` does. Assumes nothing.
 use mathlib.Core.Path.{◌≡◌, sym, ap, ◌∙◌, subst}
 use mathlib.Core.List.{List}
-use borrow.Author.Rules.{rules}
 use lib.IntN.{ℤ}
 use Rattle.sheet.specs.Refusal.{refusal_layout}
 use Rattle.sheet.specs.FirstLayout.{first_layout_of}

@@ -1,7 +1,6 @@
 -- `layout::refusal` meets its contract: the sheet's refusal comes first. Assumes nothing.
 use mathlib.Core.Path.{◌≡◌, ap}
 use native.Mathlib.Omega.{arith}
-use borrow.Author.Rules.{rules}
 use borrow.Author.Tests.{lt-ltb, le-ltb}
 use lib.Dec.{ltb}
 use Rattle.sheet.specs.Layout.{layout_rows_most}

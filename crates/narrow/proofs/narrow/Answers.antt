@@ -19,7 +19,6 @@ use Rattle.outline.specs.Outline.{OnRow}
 use Rattle.accept.proofs.Chain.{refused, accepted}
 use Rattle.accept.proofs.Numbers.{row_upto, RowNumber, row_number, row-accepted}
 use Rattle.narrow.proofs.Answers.{narrow-refused}
-use borrow.Author.Rules.{rules}
 use Rattle.narrow.proofs.narrow.Lts as lts
 use Rattle.narrow.proofs.narrow.Reads as reads
 use Rattle.narrow.proofs.narrow.Tie as tie

@@ -1,10 +1,6 @@
 -- `narrow_in` meets its contract: the step says the answer. Assumes nothing.
-use mathlib.Core.List.{List}
-use mathlib.Core.Option.{Option}
-use lib.IntN.{ℤ}
 use Rattle.sheet.specs.Narrow.{narrow_of}
 use Rattle.narrow.proofs.Answers.{narrowing, narrow_step}
-use borrow.Author.Rules.{rules}
 use Rattle.narrow.proofs.narrow_in.Goals as goal
 
 pub returns-in-NoPlace : goal.returns-in-NoPlace

@@ -8,7 +8,6 @@ use mir.Facts.{to_z-of_z}
 use Rattle.integers.specs.Integer.{eq_z}
 use Rattle.integers.specs.Words.{word}
 use Rattle.integers.proofs.Machine.{fits_word, eqb-bits}
-use borrow.Author.Rules.{rules}
 use Rattle.narrow.proofs.put.Goals as goal
 
 pub returns : goal.returns

@@ -2,7 +2,6 @@
 use mathlib.Core.Path.{ap}
 use mathlib.Core.Bool.{Bool, ◌&&◌}
 use lib.Dec.{eqb}
-use borrow.Author.Rules.{rules}
 use Rattle.nearby.specs.Listing.{lists_nothing}
 use Rattle.nearby.proofs.lists_nothing.Goals as goal
 

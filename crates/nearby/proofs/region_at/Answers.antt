@@ -1,6 +1,5 @@
 -- `nearby::region_at` meets its contract: a known area is all forbidden, and so is one that a suspect gives, which is remembered.
 -- Assumes nothing.
-use borrow.Author.Rules.{rules}
 use Rattle.nearby.proofs.Remembered.{known-forbids, filled-region, listed-remembered}
 use Rattle.nearby.proofs.region_at.Goals as goal
 

@@ -1,6 +1,5 @@
 -- `outline::draw` meets its contract: each part keeps what the parts before it made. Assumes nothing.
 use native.Mathlib.Omega.{arith}
-use borrow.Author.Rules.{rules}
 use Rattle.outline.specs.Chain.{Chained}
 use Rattle.outline.proofs.Chains.{chained-kept}
 use Rattle.outline.proofs.Counting.{rules-kept}

@@ -1,7 +1,6 @@
 -- `outline::put` meets its contract: a count is cast whole. Assumes nothing.
 use mathlib.Core.Path.{ap}
 use native.Mathlib.Omega.{arith}
-use borrow.Author.Rules.{rules}
 use lib.ListN.{set}
 use mir.Syntax.{w64}
 use mir.Facts.{to_z_pos}

@@ -1,6 +1,5 @@
 -- `placement::check_placement` meets its contract: a refusal is handed on, and otherwise the placement is fixed. Assumes nothing.
 use mathlib.Core.Path.{◌≡◌, sym, ap, ◌∙◌}
-use borrow.Author.Rules.{rules}
 use Rattle.sheet.specs.Refusal.{refusal_placement}
 use Rattle.sheet.specs.declared.Verdict.TheVariants as Q
 use Rattle.sheet.proofs.Accepted.{accepted-block, accepted-table}

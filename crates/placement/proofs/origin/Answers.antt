@@ -1,12 +1,12 @@
 -- `placement::origin` meets its contract: the words below d are the row's low ends. Assumes nothing.
 use mathlib.Core.Path.{◌≡◌, sym, ap, ◌∙◌, subst}
 use mathlib.Core.Logic.{⊎_elim}
-use Prim.Native.Nat.{ℕ, ◌-◌, ◌≤◌, ◌<◌}
+use Prim.Native.Nat.{ℕ, ◌≤◌, ◌<◌}
 use native.Mathlib.Numerals.{add-one}
 use native.Mathlib.Omega.{arith}
 use borrow.Author.Rules.{rules}
 use lib.IntN.{pos}
-use lib.ListN.{length, set, length-set}
+use lib.ListN.{set, length-set}
 use mir.Syntax.{w64}
 use mir.Val.{to_z, of_z}
 use lib.Seq.{get_or-set_same, get_or-set_other}

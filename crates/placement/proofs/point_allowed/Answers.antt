@@ -18,7 +18,6 @@ use Rattle.accept.proofs.Chain.{refused, accepted}
 use Rattle.accept.proofs.Numbers.{row_upto}
 use Rattle.accept.proofs.Shapes.{ShapeAsked, shape-asked}
 use Rattle.placement.proofs.Calls.{answer-refused, answer-allowed, answer-not}
-use borrow.Author.Rules.{rules}
 use Rattle.placement.proofs.point_allowed.Lts as lts
 use Rattle.placement.proofs.point_allowed.Reads as reads
 use Rattle.placement.proofs.point_allowed.Tie as tie

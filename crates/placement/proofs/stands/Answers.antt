@@ -6,7 +6,6 @@ use borrow.Author.Tests.{not-true, not-false}
 use Rattle.sheet.specs.Allowed.{in_ranges, rooms_hold, forbidden, allowed}
 use Rattle.points.specs.Area.{in_area}
 use Rattle.points.proofs.Areas.{in_small}
-use borrow.Author.Rules.{rules}
 use Rattle.placement.proofs.stands.Lts as lts
 use Rattle.placement.proofs.stands.Reads as reads
 use Rattle.placement.proofs.stands.Tie as tie

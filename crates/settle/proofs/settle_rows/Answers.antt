@@ -7,18 +7,17 @@ use mathlib.Core.Bool.{true}
 use Prim.Native.Nat.{ℕ, ◌≤◌, ◌<◌}
 use native.Mathlib.Nat.{eq-or-lt_of_le}
 use native.Mathlib.Omega.{arith}
-use borrow.Author.Rules.{rules}
 use lib.IntN.{pos}
 use lib.ListN.{length, replicate, get_or-replicate, length-set}
 use Rattle.integers.proofs.Booleans.{clash}
-use Rattle.sheet.specs.Layout.{axes, rows}
+use Rattle.sheet.specs.Layout.{axes}
 use Rattle.sheet.specs.Accepted.{Table}
 use Rattle.sheet.proofs.Accepted.{rows_same}
 use Rattle.integers.proofs.Below.{up_next}
 use Rattle.sheet.specs.Layout.{rows_most}
 use Rattle.settle.specs.Todo.{todo}
 use Rattle.settle.proofs.Turns.{todo-yes}
-use Rattle.settle.proofs.Worked.{OnTheWay, to_go, worked-start, worked-end}
+use Rattle.settle.proofs.Worked.{worked-start, worked-end}
 use Rattle.settle.proofs.Steps.{cleared, Turn, turn-none, turn-still, still-less, turn-good, turn_moved, moved-less}
 use Rattle.settle.proofs.settle_rows.Lts as lts
 use Rattle.settle.proofs.settle_rows.Reads as reads

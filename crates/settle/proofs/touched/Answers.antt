@@ -3,9 +3,8 @@
 use mathlib.Core.Path.{◌≡◌, refl, ◌∙◌, subst}
 use mathlib.Core.Logic.{⊎_elim}
 use mathlib.Core.Bool.{true}
-use Prim.Native.Nat.{ℕ, suc, ◌-◌, ◌^◌, ◌≤◌, ◌<◌}
+use Prim.Native.Nat.{ℕ, suc, ◌^◌, ◌<◌}
 use native.Mathlib.Omega.{arith}
-use lib.ListN.{length}
 use Rattle.integers.specs.Bits.{bit}
 use Rattle.integers.specs.Words.{word}
 use Rattle.integers.proofs.Booleans.{clash}
@@ -38,11 +37,10 @@ is_below-requires c =
     omega (arith, c.loop-r-test.true, c.loop-r.invariant.1, c.requires.on.accepted.head.few_rules)
 
 pub touched_if-requires : goal.touched_if-requires
-touched_if-requires c =
-    (
-      record { on = c.requires.on; count = c.requires.count; long = c.loop-r.invariant.3 ∙ c.requires.long },
-      omega (arith, c.loop-r-test.true, c.loop-r.invariant.1),
-    )
+touched_if-requires c = (
+  record { on = c.requires.on; count = c.requires.count; long = c.loop-r.invariant.3 ∙ c.requires.long },
+  omega (arith, c.loop-r-test.true, c.loop-r.invariant.1),
+)
 
 pub overflow_add-r : goal.overflow_add-r
 overflow_add-r c = omega (arith, c.loop-r-test.true)

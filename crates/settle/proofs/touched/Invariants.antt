@@ -1,21 +1,14 @@
 -- `settle::touched` meets its contract: after r rules a row that is not to be narrowed is spared by each of them that counts, and no rule past
 -- the last that counts is needed. Assumes nothing.
-use mathlib.Core.Path.{◌≡◌, refl, ◌∙◌, subst}
-use mathlib.Core.Logic.{⊎_elim}
+use mathlib.Core.Path.{◌≡◌}
 use mathlib.Core.Bool.{true}
-use Prim.Native.Nat.{ℕ, suc, ◌-◌, ◌^◌, ◌≤◌, ◌<◌}
-use native.Mathlib.Omega.{arith}
+use Prim.Native.Nat.{ℕ, ◌-◌, ◌≤◌, ◌<◌}
 use lib.ListN.{length}
 use Rattle.integers.specs.Bits.{bit}
 use Rattle.integers.specs.Words.{word}
-use Rattle.integers.proofs.Booleans.{clash}
-use Rattle.integers.proofs.Below.{below_or}
-use Rattle.integers.proofs.Bits.{bit_past}
 use Rattle.sheet.specs.Layout.{rules}
 use Rattle.outline.specs.Places.{rules_at}
-use Rattle.nearby.proofs.Covers.{harmless-covered}
 use Rattle.settle.specs.Todo.{Spared, Touched}
-use Rattle.settle.proofs.Turns.{untouched, touched-so, touched-next}
 use Rattle.settle.proofs.touched.Given as goal
 
 abbrev pub invariant-loop-r : goal.invariant-loop-r

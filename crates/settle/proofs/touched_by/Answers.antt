@@ -1,9 +1,7 @@
 -- `settle::touched_by` meets its contract: a row below m that is not to be narrowed is spared by the rule. Assumes nothing.
-use mathlib.Core.Path.{◌≡◌, refl, sym, ap, ◌∙◌, subst}
-use mathlib.Core.Logic.{⊎_elim}
-use Prim.Native.Nat.{◌+◌, ◌-◌, ◌≤◌}
+use mathlib.Core.Path.{refl, sym, ◌∙◌, subst}
+use Prim.Native.Nat.{◌+◌, ◌≤◌}
 use native.Mathlib.Omega.{arith}
-use lib.ListN.{length, length-set}
 use Rattle.integers.proofs.Booleans.{clash}
 use Rattle.sheet.specs.Layout.{rows_most}
 use Rattle.settle.specs.Todo.{Spared}
@@ -51,9 +49,9 @@ loop-m-preserved c =
       omega arith,
       elim c.if-due-m-ne1.branch [
         | then-due-m-ne1+then-threatens x ↦ subst next (sym x.due-is)
-        (setting-put now-set (omega (arith, long, c.requires.0.long, c.requires.0.count, c.requires.0.on.table.whole.few_rows)))
+            (setting-put now-set (omega (arith, long, c.requires.0.long, c.requires.0.count, c.requires.0.on.table.whole.few_rows)))
         | then-due-m-ne1+else-threatens x ↦ subst next (sym x.due-is)
-        (setting-stay now-set (λ e kind names-i names. x.threatens.ensures x.if-threatens.false names))
+            (setting-stay now-set (λ e kind names-i names. x.threatens.ensures x.if-threatens.false names))
         | else-due-m-ne1 x ↦ subst next (sym x.due-is) (setting-stay now-set (λ e. clash (todo-taken c.loop-m.due c.loop-m.m c.t12-1.given x.if-due-m-ne1.false) e))
       ],
       c.if-due-m-ne1.auto.due ∙ long,

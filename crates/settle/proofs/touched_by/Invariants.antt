@@ -1,13 +1,9 @@
 -- `settle::touched_by` meets its contract: a row below m that is not to be narrowed is spared by the rule. Assumes nothing.
-use mathlib.Core.Path.{◌≡◌, refl, sym, ap, ◌∙◌, subst}
-use mathlib.Core.Logic.{⊎_elim}
-use Prim.Native.Nat.{◌+◌, ◌-◌, ◌≤◌}
-use native.Mathlib.Omega.{arith}
-use lib.ListN.{length, length-set}
-use Rattle.integers.proofs.Booleans.{clash}
-use Rattle.sheet.specs.Layout.{rows_most}
+use mathlib.Core.Path.{◌≡◌}
+use Prim.Native.Nat.{◌-◌, ◌≤◌}
+use lib.ListN.{length}
 use Rattle.settle.specs.Todo.{Spared}
-use Rattle.settle.proofs.Turns.{todo-taken, Setting, setting-start, setting-stay, setting-put, setting-done}
+use Rattle.settle.proofs.Turns.{Setting}
 use Rattle.settle.proofs.touched_by.Given as goal
 
 abbrev pub invariant-loop-m : goal.invariant-loop-m

@@ -4,7 +4,6 @@ use mathlib.Core.Path.{◌≡◌, sym, ap, ◌∙◌, subst}
 use mathlib.Core.Bool.{◌&&◌}
 use Prim.Native.Nat.{ℕ}
 use native.Mathlib.Omega.{arith}
-use borrow.Author.Rules.{rules}
 use Rattle.integers.proofs.Booleans.{clash, not-true, true-and}
 use Rattle.sheet.specs.Layout.{is_non_overlap, names_row}
 use Rattle.settle.specs.Todo.{Spared, Touched}

@@ -1,7 +1,6 @@
 -- `splits::copy_upto` meets its contract. Assumes nothing.
 use mathlib.Core.Path.{sym, ap, ◌∙◌, subst}
 use mathlib.Core.List.{List}
-use borrow.Author.Rules.{rules}
 use lib.IntN.{ℤ}
 use Rattle.splits.specs.Splits.{OnNumber, upto_value}
 use Rattle.splits.proofs.copy_upto.Goals as goal

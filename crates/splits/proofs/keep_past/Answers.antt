@@ -1,6 +1,5 @@
 -- `splits::keep_past` meets its contract. Assumes nothing.
 use mathlib.Core.Path.{ap, ◌∙◌}
-use borrow.Author.Rules.{rules}
 use lib.IntN.{ℤ, pos}
 use Rattle.integers.proofs.Machine.{bnd, num, ◌+ʷ◌, sum_fits, exact}
 use Rattle.sheet.specs.Cuts.{cut_to}

@@ -1,7 +1,5 @@
 -- `splits::keep_upto` meets its contract. Assumes nothing.
 use mathlib.Core.Path.{ap, ◌∙◌}
-use borrow.Author.Rules.{rules}
-use lib.IntN.{ℤ}
 use Rattle.points.proofs.Sums.{bits_back}
 use Rattle.splits.specs.Splits.{upto_value}
 use Rattle.splits.proofs.keep_upto.Goals as goal

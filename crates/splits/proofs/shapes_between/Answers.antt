@@ -1,12 +1,9 @@
 -- `splits::shapes_between` meets its contract: so far the set has the shapes passed. Assumes nothing.
 use mathlib.Core.Path.{◌≡◌, sym, ap₂, ◌∙◌}
-use Prim.Native.Nat.{◌-◌, ◌≤◌}
 use native.Mathlib.Numerals.{add-one}
 use native.Mathlib.Omega.{arith}
 use lib.IntN.{ℤ}
 use mir.Facts.{to_z-of_z}
-use mir.Syntax.{w64}
-use mir.Val.{to_z}
 use Rattle.integers.specs.Bits.{set_of}
 use Rattle.integers.proofs.Sets.{set_of-zero}
 use Rattle.splits.specs.Splits.{is_between}

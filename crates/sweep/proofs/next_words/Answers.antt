@@ -1,14 +1,12 @@
 -- `next_words` makes the point one past, word by word.
 -- Assumes nothing.
 use mathlib.Core.Path.{sym, ◌∙◌}
-use Prim.Native.Nat.{◌-◌, ◌≤◌, ◌<◌}
+use Prim.Native.Nat.{◌≤◌, ◌<◌}
 use native.Mathlib.Omega.{arith}
 use borrow.Author.Rules.{rules}
 use lib.ListN.{length}
 use Rattle.integers.proofs.Machine.{bnd, num, ◌+ʷ◌, exact}
-use Rattle.points.specs.Area.{coordinates}
-use Rattle.sweep.specs.Point.{nexts}
-use Rattle.sweep.proofs.Points.{near_fits, Made, made_none, made_more, made_all, length-nexts, word-nexts}
+use Rattle.sweep.proofs.Points.{near_fits, made_none, made_more, made_all, length-nexts, word-nexts}
 use Rattle.sweep.proofs.next_words.Goals as goal
 
 pub loop-e-init : goal.loop-e-init

@@ -1,11 +1,9 @@
 -- `rotated` gives the rotation: the three tests of the code are those of the definition, and its table is that of the rule, which the checker
 -- computes. Assumes nothing.
 use mathlib.Core.Path.{◌≡◌, sym, ap, ◌∙◌}
-use mathlib.Core.Logic.{⊎_elim}
 use Prim.Native.Nat.{ℕ, suc, ◌-◌, ◌+◌}
 use native.Mathlib.Omega.{arith}
-use borrow.Author.Rules.{rules}
-use borrow.Author.Tests.{ltb-true, ltb-false}
+use borrow.Author.Tests.{ltb-true}
 use Rattle.integers.specs.Words.{list_below}
 use Rattle.sweep.proofs.Rotations.{rotation-out, rotation-below}
 use Rattle.sweep.proofs.Table.{reduced, table-rule, reduced-rotation}

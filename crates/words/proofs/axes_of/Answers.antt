@@ -1,6 +1,5 @@
 -- `words::axes_of` meets its contract: today a row has a range for each dimension. Assumes nothing.
 use Rattle.sheet.specs.Layout.{axes}
-use borrow.Author.Rules.{rules}
 use Rattle.words.proofs.axes_of.Goals as goal
 
 pub returns : goal.returns

@@ -4,7 +4,6 @@ use Prim.Native.Nat.{◌+◌, ◌*◌}
 use native.Mathlib.Omega.{arith}
 use Rattle.sheet.specs.Layout.{box_at}
 use Rattle.words.proofs.Ends.{box-at, box-at-ends}
-use borrow.Author.Rules.{rules}
 use Rattle.words.proofs.box_place.Goals as goal
 
 -- the code's position

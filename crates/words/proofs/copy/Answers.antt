@@ -1,9 +1,7 @@
 -- `words::copy` meets its contract: the first words are those of the other run. Assumes nothing.
 use mathlib.Core.Path.{◌≡◌, refl, sym, ◌∙◌}
-use Prim.Native.Nat.{◌-◌, ◌≤◌}
 use native.Mathlib.Omega.{arith}
-use borrow.Author.Rules.{rules}
-use lib.ListN.{length, take, length-set}
+use lib.ListN.{length, length-set}
 use lib.Seq.{take_all}
 use Rattle.words.proofs.Copies.{take-set}
 use Rattle.words.proofs.copy.Goals as goal

@@ -1,11 +1,7 @@
 -- `words::copy` meets its contract: the first words are those of the other run. Assumes nothing.
-use mathlib.Core.Path.{◌≡◌, refl, sym, ◌∙◌}
+use mathlib.Core.Path.{◌≡◌}
 use Prim.Native.Nat.{◌-◌, ◌≤◌}
-use native.Mathlib.Omega.{arith}
-use borrow.Author.Rules.{rules}
-use lib.ListN.{length, take, length-set}
-use lib.Seq.{take_all}
-use Rattle.words.proofs.Copies.{take-set}
+use lib.ListN.{length, take}
 use Rattle.words.proofs.copy.Given as goal
 
 abbrev pub invariant-loop-at : goal.invariant-loop-at

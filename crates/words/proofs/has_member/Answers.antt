@@ -1,6 +1,5 @@
 -- `words::has_member` meets its contract: the machine's shift and remainder are the definition's. Assumes nothing.
 use mathlib.Core.Path.{refl}
-use borrow.Author.Rules.{rules}
 use Rattle.integers.specs.Bits.{bit, bit_at}
 use Rattle.words.proofs.has_member.Goals as goal
 

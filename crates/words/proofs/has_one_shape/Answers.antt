@@ -3,7 +3,6 @@ use mathlib.Core.Path.{ap, ◌∙◌}
 use Prim.Native.Nat.{ℕ}
 use lib.Count.{ones}
 use lib.Dec.{eqb}
-use borrow.Author.Rules.{rules}
 use Rattle.integers.proofs.Sets.{set_below, one-only-held}
 use Rattle.sheet.specs.Layout.{has_only}
 use Rattle.words.proofs.has_one_shape.Goals as goal

@@ -4,7 +4,6 @@ use native.Mathlib.Omega.{arith}
 use Rattle.sheet.specs.Layout.{shape_set, has_shape}
 use Rattle.words.proofs.Ends.{row_ends}
 use Rattle.integers.proofs.Sets.{set-bit}
-use borrow.Author.Rules.{rules}
 use Rattle.words.proofs.has_shape.Goals as goal
 
 pub bit_at-requires : goal.bit_at-requires

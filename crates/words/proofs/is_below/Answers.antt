@@ -4,7 +4,6 @@ use Prim.Native.Nat.{◌/◌, ◌*◌, ◌^◌, ◌<◌}
 use native.Mathlib.Nat.{div-lt_iff_lt-mul}
 use native.Mathlib.Omega.{arith}
 use lib.Pow.{pow_pos}
-use borrow.Author.Rules.{rules}
 use borrow.Author.Tests.{eqb-true, eq-eqb}
 use Rattle.words.proofs.is_below.Goals as goal
 

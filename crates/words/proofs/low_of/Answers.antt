@@ -4,7 +4,6 @@ use native.Mathlib.Omega.{arith}
 use Rattle.sheet.specs.Layout.{low}
 use Rattle.words.proofs.Ends.{row_ends}
 use Rattle.words.proofs.Reading.{read_back}
-use borrow.Author.Rules.{rules}
 use Rattle.words.proofs.low_of.Goals as goal
 
 pub overflow_add-at : goal.overflow_add-at

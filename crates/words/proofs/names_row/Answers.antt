@@ -4,7 +4,6 @@ use native.Mathlib.Omega.{arith}
 use Rattle.sheet.specs.Layout.{row_set, names_row}
 use Rattle.words.proofs.Ends.{rule-ends}
 use Rattle.integers.proofs.Sets.{set-bit}
-use borrow.Author.Rules.{rules}
 use Rattle.words.proofs.names_row.Goals as goal
 
 pub overflow_add-at : goal.overflow_add-at

@@ -4,7 +4,6 @@ use native.Mathlib.Omega.{arith}
 use Rattle.sheet.specs.Layout.{room_low}
 use Rattle.words.proofs.Ends.{rule-ends}
 use Rattle.words.proofs.Reading.{read_back}
-use borrow.Author.Rules.{rules}
 use Rattle.words.proofs.room_low.Goals as goal
 
 pub overflow_add-at : goal.overflow_add-at

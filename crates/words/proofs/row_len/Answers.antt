@@ -1,6 +1,5 @@
 -- `words::row_len` meets its contract: the code's sum is the definition's. Assumes nothing.
 use Rattle.sheet.specs.Layout.{row_len}
-use borrow.Author.Rules.{rules}
 use Rattle.words.proofs.row_len.Goals as goal
 
 pub returns : goal.returns

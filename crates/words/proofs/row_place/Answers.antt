@@ -4,7 +4,6 @@ use Prim.Native.Nat.{◌-◌, ◌*◌}
 use native.Mathlib.Omega.{arith}
 use Rattle.sheet.specs.Layout.{row_at}
 use Rattle.words.proofs.Ends.{row-at, row-at-ends}
-use borrow.Author.Rules.{rules}
 use Rattle.words.proofs.row_place.Goals as goal
 
 -- the code's position

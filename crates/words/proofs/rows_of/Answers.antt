@@ -1,7 +1,6 @@
 -- `words::rows_of` meets its contract: the code's division is the definition's. Assumes nothing.
 use native.Mathlib.Omega.{arith}
 use Rattle.sheet.specs.Layout.{row_len, rows}
-use borrow.Author.Rules.{rules}
 use Rattle.words.proofs.rows_of.Goals as goal
 
 pub nonzero_div-result : goal.nonzero_div-result

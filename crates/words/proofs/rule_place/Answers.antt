@@ -4,7 +4,6 @@ use Prim.Native.Nat.{◌+◌, ◌*◌}
 use native.Mathlib.Omega.{arith}
 use Rattle.sheet.specs.Layout.{rule_at}
 use Rattle.words.proofs.Ends.{rule-at, rule-at-ends}
-use borrow.Author.Rules.{rules}
 use Rattle.words.proofs.rule_place.Goals as goal
 
 -- the code's position

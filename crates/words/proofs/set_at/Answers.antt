@@ -2,7 +2,6 @@
 use Rattle.integers.specs.Words.{word}
 use Rattle.integers.proofs.Machine.{cast_ok}
 use Rattle.words.proofs.Reading.{cast-nat}
-use borrow.Author.Rules.{rules}
 use Rattle.words.proofs.set_at.Goals as goal
 
 pub overflow_cast-result : goal.overflow_cast-result

@@ -4,7 +4,6 @@ use native.Mathlib.Omega.{arith}
 use Rattle.sheet.specs.Layout.{size}
 use Rattle.words.proofs.Ends.{box-ends}
 use Rattle.words.proofs.Reading.{read_back}
-use borrow.Author.Rules.{rules}
 use Rattle.words.proofs.size_of.Goals as goal
 
 pub overflow_add-at : goal.overflow_add-at

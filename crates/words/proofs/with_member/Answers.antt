@@ -4,7 +4,6 @@ use Prim.Native.Nat.{ℕ, suc, ◌*◌, ◌%◌, ◌^◌, ◌<◌, ◌≤◌}
 use native.Mathlib.Omega.{arith}
 use lib.Dec.{lit<}
 use lib.Pow.{shl_exact, pow_mono}
-use borrow.Author.Rules.{rules}
 use Rattle.words.proofs.with_member.Goals as goal
 
 place : (s : ℕ) → s < 32 → 1 * 2 ^ s % 2 ^ 32 ≡ 1 * 2 ^ s

@@ -3,7 +3,6 @@ use mathlib.Core.Path.{◌∙◌}
 use mir.Facts.{to_z-of_z}
 use Rattle.integers.specs.Words.{word}
 use Rattle.integers.proofs.Machine.{fits_word}
-use borrow.Author.Rules.{rules}
 use Rattle.words.proofs.word_in.Goals as goal
 
 pub returns : goal.returns

@@ -1,10 +1,8 @@
 -- `accept::block::bad_box` meets its contract: a box is tested a turn. Assumes nothing.
 use mathlib.Core.Path.{◌≡◌, sym, ap, ◌∙◌}
-use mathlib.Core.Bool.{true, not}
-use Prim.Native.Nat.{◌-◌, ◌≤◌}
+use mathlib.Core.Bool.{not}
 use native.Mathlib.Omega.{arith}
 use borrow.Author.Rules.{rules}
-use Rattle.integers.specs.Below.{all_below}
 use Rattle.integers.proofs.Below.{all-zero, all-false}
 use Rattle.sheet.specs.Layout.{valid_box}
 use Rattle.sheet.specs.Refusal.{bad_box}

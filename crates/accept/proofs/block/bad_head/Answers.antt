@@ -1,7 +1,6 @@
 -- `accept::block::bad_head` meets its contract: a block that is too short is not read. Assumes nothing.
 use borrow.Author.Tests.{lt-ltb, le-ltb}
 use Rattle.sheet.specs.Refusal.{bad_head}
-use borrow.Author.Rules.{rules}
 use Rattle.accept.proofs.block.bad_head.Goals as goal
 
 pub returns-then-block-lt3 : goal.returns-then-block-lt3

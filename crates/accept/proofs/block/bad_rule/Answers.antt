@@ -1,10 +1,8 @@
 -- `accept::block::bad_rule` meets its contract: a rule is tested a turn. Assumes nothing.
 use mathlib.Core.Path.{◌≡◌, sym, ap, ap₂, ◌∙◌}
-use mathlib.Core.Bool.{true, not}
-use Prim.Native.Nat.{◌-◌, ◌≤◌}
+use mathlib.Core.Bool.{not}
 use native.Mathlib.Omega.{arith}
 use borrow.Author.Rules.{rules}
-use Rattle.integers.specs.Below.{all_below}
 use Rattle.integers.proofs.Below.{all-zero, all-false}
 use Rattle.sheet.specs.Layout.{valid_rule, rows}
 use Rattle.sheet.specs.Refusal.{bad_rule}

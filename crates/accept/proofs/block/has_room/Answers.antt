@@ -1,6 +1,5 @@
 -- `accept::block::has_room` meets its contract: the two tests of the definition. Assumes nothing.
 use mathlib.Core.Path.{sym, ◌∙◌}
-use borrow.Author.Rules.{rules}
 use Rattle.accept.proofs.block.has_room.Goals as goal
 
 pub returns-then-is_containment : goal.returns-then-is_containment

@@ -1,6 +1,5 @@
 -- `accept::block::valid_box` meets its contract: the two tests of the definition. Assumes nothing.
 use mathlib.Core.Path.{◌≡◌, sym, ap, ◌∙◌}
-use borrow.Author.Rules.{rules}
 use lib.IntN.{pos}
 use Rattle.integers.specs.Integer.{within}
 use Rattle.sheet.specs.Layout.{shape_of, valid_box}

@@ -1,6 +1,5 @@
 -- `accept::block::valid_clearance` meets its contract: the two tests of the definition. Assumes nothing.
 use mathlib.Core.Path.{◌≡◌, sym, ap, ◌∙◌}
-use borrow.Author.Rules.{rules}
 use lib.IntN.{ℤ, pos}
 use Rattle.integers.specs.Integer.{eq_z, within}
 use Rattle.sheet.specs.Layout.{valid_clearance, clearance}

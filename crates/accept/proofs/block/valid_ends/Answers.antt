@@ -1,7 +1,6 @@
 -- `accept::block::valid_ends` meets its contract: the definition's cases. Assumes nothing.
 use mathlib.Core.Path.{◌≡◌, sym, ap, ap₂, ◌∙◌}
 use mathlib.Core.Bool.{false, ◌&&◌}
-use borrow.Author.Rules.{rules}
 use lib.IntN.{ℤ, pos}
 use Rattle.integers.specs.Integer.{eq_z}
 use Rattle.sheet.specs.Layout.{is_containment, names_dim, valid_ends, room_low}

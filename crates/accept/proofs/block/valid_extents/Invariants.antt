@@ -1,13 +1,9 @@
 -- `accept::block::valid_extents` meets its contract: an extent is tested a turn. Assumes nothing.
-use mathlib.Core.Path.{◌≡◌, sym}
+use mathlib.Core.Path.{◌≡◌}
 use mathlib.Core.Bool.{true}
 use Prim.Native.Nat.{◌-◌, ◌≤◌}
-use native.Mathlib.Omega.{arith}
-use borrow.Author.Rules.{rules}
 use Rattle.integers.specs.Below.{all_below}
-use Rattle.integers.proofs.Below.{all-zero, all-false}
 use Rattle.accept.specs.Parts.{valid_extent}
-use Rattle.accept.proofs.Turns.{fails_by, passes-by, all-next, all_done}
 use Rattle.accept.proofs.block.valid_extents.Given as goal
 
 abbrev pub invariant-loop-d : goal.invariant-loop-d

@@ -2,7 +2,6 @@
 use mir.Facts.{to_z-of_z}
 use Rattle.accept.proofs.Tests.{power-fits, full-fits}
 use lib.Pow.{pow_pos}
-use borrow.Author.Rules.{rules}
 use Rattle.accept.proofs.range.full_set.Goals as goal
 
 pub overflow_sub-result : goal.overflow_sub-result

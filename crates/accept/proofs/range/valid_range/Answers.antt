@@ -1,6 +1,5 @@
 -- `accept::range::valid_range` meets its contract: the three tests of the definition, in its order. Assumes nothing.
 use mathlib.Core.Path.{◌≡◌, sym, ◌∙◌}
-use borrow.Author.Rules.{rules}
 use lib.IntN.{pos}
 use mir.Facts.{to_z-of_z}
 use Rattle.integers.specs.Integer.{minus, within}

@@ -1,6 +1,5 @@
 -- `accept::range::valid_set` meets its contract: the set is tested as it was passed. Assumes nothing.
 use mathlib.Core.Path.{ap₂, ◌∙◌}
-use borrow.Author.Rules.{rules}
 use lib.IntN.{pos}
 use mir.Facts.{to_z-of_z}
 use Rattle.integers.specs.Integer.{within}

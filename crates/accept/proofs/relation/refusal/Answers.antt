@@ -1,6 +1,5 @@
 -- `accept::relation::refusal` meets its contract: the first row's refusal comes first, then the checks in their order. Assumes nothing.
 use mathlib.Core.Path.{◌≡◌, sym, ap, ◌∙◌}
-use borrow.Author.Rules.{rules}
 use lib.IntN.{pos}
 use mir.Facts.{to_z-of_z}
 use Rattle.sheet.specs.Refusal.{◌when◌, ◌else◌, no_such_row, no_box_dim, not_fixed, refusal, refusal_row, refusal_relation}

@@ -1,10 +1,9 @@
 -- `accept::table::bad_row` meets its contract: a row is tested a turn. Assumes nothing.
 use mathlib.Core.Path.{◌≡◌, sym, ap, ◌∙◌}
-use mathlib.Core.Bool.{Bool, true, not}
-use Prim.Native.Nat.{ℕ, ◌+◌, ◌-◌, ◌≤◌}
+use mathlib.Core.Bool.{Bool, not}
+use Prim.Native.Nat.{ℕ, ◌+◌}
 use native.Mathlib.Omega.{arith}
 use borrow.Author.Rules.{rules}
-use Rattle.integers.specs.Below.{all_up_to}
 use Rattle.integers.proofs.Below.{all-zero}
 use Rattle.sheet.specs.Layout.{valid_row}
 use Rattle.sheet.specs.Refusal.{bad_row}

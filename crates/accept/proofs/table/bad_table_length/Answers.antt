@@ -1,7 +1,6 @@
 -- `accept::table::bad_table_length` meets its contract: a quotient times its divisor does not exceed the length. Assumes nothing.
 use native.Mathlib.Omega.{arith}
 use borrow.Author.Tests.{eq-eqb, ne_eqb, lt-ltb, lt-leb, le-leb}
-use borrow.Author.Rules.{rules}
 use Rattle.sheet.specs.Refusal.{bad_table_length}
 use Rattle.accept.proofs.Tests.{rows_fit, ltb-not-leb}
 use Rattle.accept.proofs.table.bad_table_length.Goals as goal

@@ -1,10 +1,9 @@
 -- `accept::table::not_fixed` meets its contract: a row is tested a turn. Assumes nothing.
 use mathlib.Core.Path.{◌≡◌, sym, ap, ◌∙◌}
-use mathlib.Core.Bool.{Bool, true, not}
-use Prim.Native.Nat.{ℕ, ◌+◌, ◌-◌, ◌≤◌}
+use mathlib.Core.Bool.{Bool, not}
+use Prim.Native.Nat.{ℕ, ◌+◌}
 use native.Mathlib.Omega.{arith}
 use borrow.Author.Rules.{rules}
-use Rattle.integers.specs.Below.{all_up_to}
 use Rattle.integers.proofs.Below.{all-zero}
 use Rattle.sheet.specs.Placement.{row_fixed, fixed}
 use Rattle.sheet.specs.Refusal.{not_fixed}

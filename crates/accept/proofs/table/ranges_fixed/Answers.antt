@@ -1,11 +1,8 @@
 -- `accept::table::ranges_fixed` meets its contract: a range is tested a turn. Assumes nothing.
 use mathlib.Core.Path.{◌≡◌, sym, ap₂, ◌∙◌}
-use mathlib.Core.Bool.{true}
-use Prim.Native.Nat.{◌-◌, ◌≤◌}
 use native.Mathlib.Omega.{arith}
 use borrow.Author.Rules.{rules}
 use Rattle.integers.specs.Integer.{eq_z}
-use Rattle.integers.specs.Below.{all_below}
 use Rattle.integers.proofs.Below.{all-zero, all-false}
 use Rattle.words.proofs.Reading.{read_back}
 use Rattle.accept.specs.Parts.{fixed_range}

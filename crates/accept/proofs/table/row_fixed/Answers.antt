@@ -1,6 +1,5 @@
 -- `accept::table::row_fixed` meets its contract: one shape, and one number in each range. Assumes nothing.
 use mathlib.Core.Path.{sym, ◌∙◌}
-use borrow.Author.Rules.{rules}
 use Rattle.sheet.specs.Placement.{row_fixed}
 use Rattle.accept.proofs.table.row_fixed.Goals as goal
 

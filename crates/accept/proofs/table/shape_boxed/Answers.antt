@@ -1,7 +1,6 @@
 -- `accept::table::shape_boxed` meets its contract: the flags tell of the shapes that the row has. Assumes nothing.
 use mathlib.Core.Path.{sym, ◌∙◌}
 use native.Mathlib.Omega.{arith}
-use borrow.Author.Rules.{rules}
 use Rattle.integers.proofs.Booleans.{implies-in, implies-out}
 use Rattle.accept.proofs.Turns.{fails_by, passes-by}
 use Rattle.accept.proofs.table.shape_boxed.Goals as goal

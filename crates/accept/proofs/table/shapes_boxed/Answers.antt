@@ -1,12 +1,11 @@
 -- `accept::table::shapes_boxed` meets its contract: a shape is tested a turn. Assumes nothing.
-use mathlib.Core.Path.{◌≡◌, sym, subst}
+use mathlib.Core.Path.{sym, subst}
 use mathlib.Core.Logic.{⊎_elim}
-use mathlib.Core.Bool.{Bool, true}
-use Prim.Native.Nat.{ℕ, ◌^◌, ◌-◌, ◌≤◌, ◌<◌}
+use mathlib.Core.Bool.{Bool}
+use Prim.Native.Nat.{ℕ, ◌^◌, ◌<◌}
 use native.Mathlib.Omega.{arith}
 use borrow.Author.Rules.{rules}
 use lib.Count.{trailing_le}
-use Rattle.integers.specs.Below.{all_up_to}
 use Rattle.integers.proofs.Booleans.{implies-out}
 use Rattle.integers.proofs.Below.{upto-at, at-upto, below_or}
 use Rattle.words.proofs.Shapes.{none_before, none-past}

@@ -1,19 +1,9 @@
 -- `fill::cells::brick_of` meets its contract: the places below d are the box's. Assumes nothing.
-use mathlib.Core.Path.{◌≡◌, ap, ◌∙◌}
-use Prim.Native.Nat.{ℕ, ◌-◌, ◌≤◌, ◌<◌}
-use native.Mathlib.Omega.{arith}
-use borrow.Author.Rules.{rules}
-use lib.IntN.{pos}
-use lib.ListN.{length, length-set}
-use Rattle.integers.proofs.Machine.{cast_ok}
-use Rattle.integers.proofs.Ints.{ints}
-use Rattle.integers.proofs.Ranges.{pos-nat}
-use Rattle.sheet.specs.Layout.{dims}
-use Rattle.sheet.specs.Accepted.{Count}
-use Rattle.words.proofs.Reading.{cast-nat}
+use mathlib.Core.Path.{◌≡◌}
+use Prim.Native.Nat.{◌-◌, ◌≤◌}
+use lib.ListN.{length}
 use Rattle.fill.specs.Room.{IsPlace, IsSize}
-use Rattle.fill.proofs.Arrays.{Holds, one_more}
-use Rattle.fill.proofs.Bricks.{size-near, size-from}
+use Rattle.fill.proofs.Arrays.{Holds}
 use Rattle.fill.proofs.cells.brick_of.Given as goal
 
 abbrev pub invariant-loop-d : goal.invariant-loop-d

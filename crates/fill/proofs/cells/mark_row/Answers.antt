@@ -1,13 +1,12 @@
 -- `fill::cells::mark_row` meets its contract: the cells of the row's boxes before b are marked, and b is the next of them. Assumes nothing.
 use mathlib.Core.Path.{◌≡◌, sym, ◌∙◌}
 use mathlib.Core.Bool.{true}
-use Prim.Native.Nat.{ℕ, ◌-◌, ◌≤◌, ◌<◌}
+use Prim.Native.Nat.{ℕ, ◌≤◌, ◌<◌}
 use native.Mathlib.Omega.{arith}
 use Rattle.sheet.specs.Layout.{boxes, is_of, of_row}
-use Rattle.sheet.specs.Fill.{room_cells}
-use Rattle.fill.specs.Room.{NamedBox, Adds}
+use Rattle.fill.specs.Room.{NamedBox}
 use Rattle.fill.proofs.Bricks.{brick-lies, brick-adds}
-use Rattle.fill.proofs.Covers.{own-box, boxes_to, boxes-first, boxes-next, boxes-all}
+use Rattle.fill.proofs.Covers.{own-box, boxes-first, boxes-next, boxes-all}
 use Rattle.fill.proofs.cells.mark_row.Goals as goal
 
 -- the boxes of the shape are the row's

@@ -1,13 +1,11 @@
 -- `fill::cells::mark_row` meets its contract: the cells of the row's boxes before b are marked, and b is the next of them. Assumes nothing.
-use mathlib.Core.Path.{◌≡◌, sym, ◌∙◌}
+use mathlib.Core.Path.{◌≡◌}
 use mathlib.Core.Bool.{true}
-use Prim.Native.Nat.{ℕ, ◌-◌, ◌≤◌, ◌<◌}
-use native.Mathlib.Omega.{arith}
-use Rattle.sheet.specs.Layout.{boxes, is_of, of_row}
+use Prim.Native.Nat.{◌-◌, ◌≤◌, ◌<◌}
+use Rattle.sheet.specs.Layout.{of_row}
 use Rattle.sheet.specs.Fill.{room_cells}
-use Rattle.fill.specs.Room.{NamedBox, Adds}
-use Rattle.fill.proofs.Bricks.{brick-lies, brick-adds}
-use Rattle.fill.proofs.Covers.{own-box, boxes_to, boxes-first, boxes-next, boxes-all}
+use Rattle.fill.specs.Room.{Adds}
+use Rattle.fill.proofs.Covers.{boxes_to}
 use Rattle.fill.proofs.cells.mark_row.Given as goal
 
 abbrev pub invariant-loop-b : goal.invariant-loop-b

@@ -1,7 +1,6 @@
 -- `fill::cells::mark_rows` meets its contract: the cells of the rule's rows up to m are marked. Assumes nothing.
 use mathlib.Core.Path.{sym, ◌∙◌, subst}
-use mathlib.Core.Logic.{⊎_elim}
-use Prim.Native.Nat.{◌+◌, ◌-◌, ◌≤◌}
+use Prim.Native.Nat.{◌+◌, ◌≤◌}
 use native.Mathlib.Omega.{arith}
 use Rattle.integers.specs.Below.{UpTo}
 use Rattle.integers.proofs.Below.{up_next}
@@ -47,8 +46,7 @@ row_place-i-requires c =
 
 pub mark_row-requires : goal.mark_row-requires
 mark_row-requires c =
-    let p = c.row_place-i.ensures in
-    (
+    let p = c.row_place-i.ensures in (
       record { counting = c.requires.0; row = p.0; named = rw p.1 (sym c.names_row.ensures ∙ c.if-names_row.true) },
       c.requires.1,
       c.widths_of-widths.ensures,
@@ -72,9 +70,9 @@ loop-m-preserved c =
       omega (arith, c.loop-m-test.true),
       elim c.if-names_row.branch [
         | then-names_row x ↦ subst (Adds n (rows_to block t a.r.number (m + 1)) old) (sym x.marks-is)
-        (rows_named block t a.r.number m x.row_place-i.ensures.1 (named ∙ x.if-names_row.true) c.loop-m.invariant.1 x.mark_row.ensures)
+            (rows_named block t a.r.number m x.row_place-i.ensures.1 (named ∙ x.if-names_row.true) c.loop-m.invariant.1 x.mark_row.ensures)
         | else-names_row x ↦ subst (Adds n (rows_to block t a.r.number (m + 1)) old) (sym x.marks-is)
-        (rows_other block t a.r.number m (named ∙ x.if-names_row.false) c.loop-m.invariant.1)
+            (rows_other block t a.r.number m (named ∙ x.if-names_row.false) c.loop-m.invariant.1)
       ],
     )
 

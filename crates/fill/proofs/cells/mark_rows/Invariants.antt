@@ -1,14 +1,8 @@
 -- `fill::cells::mark_rows` meets its contract: the cells of the rule's rows up to m are marked. Assumes nothing.
-use mathlib.Core.Path.{sym, ◌∙◌, subst}
-use mathlib.Core.Logic.{⊎_elim}
-use Prim.Native.Nat.{◌+◌, ◌-◌, ◌≤◌}
-use native.Mathlib.Omega.{arith}
-use Rattle.integers.specs.Below.{UpTo}
-use Rattle.integers.proofs.Below.{up_next}
-use Rattle.sheet.specs.Layout.{rows}
+use Prim.Native.Nat.{◌-◌, ◌≤◌}
 use Rattle.sheet.specs.Fill.{room_cells}
 use Rattle.fill.specs.Room.{Adds}
-use Rattle.fill.proofs.Covers.{rows_to, rows-first, rows_named, rows_other, rows_all}
+use Rattle.fill.proofs.Covers.{rows_to}
 use Rattle.fill.proofs.cells.mark_rows.Given as goal
 
 abbrev pub invariant-loop-m : goal.invariant-loop-m

@@ -1,12 +1,8 @@
 -- `fill::room::names_every_dim` meets its contract: a dimension is tested a turn. Assumes nothing.
-use mathlib.Core.Path.{◌≡◌, sym}
-use mathlib.Core.Bool.{true}
-use Prim.Native.Nat.{◌-◌, ◌≤◌}
+use mathlib.Core.Path.{sym}
 use native.Mathlib.Omega.{arith}
 use borrow.Author.Rules.{rules}
-use Rattle.integers.specs.Below.{all_below}
 use Rattle.integers.proofs.Below.{all-zero, all-false}
-use Rattle.sheet.specs.Layout.{names_dim}
 use Rattle.accept.proofs.Turns.{fails_by, passes-by, all-next, all_done}
 use Rattle.fill.proofs.room.names_every_dim.Goals as goal
 

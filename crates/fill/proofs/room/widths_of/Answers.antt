@@ -1,11 +1,10 @@
 -- `fill::room::widths_of` meets its contract: the numbers below d are the room's widths. Assumes nothing.
-use mathlib.Core.Path.{◌≡◌}
-use Prim.Native.Nat.{◌-◌, ◌≤◌}
+use Prim.Native.Nat.{◌≤◌}
 use native.Mathlib.Omega.{arith}
 use borrow.Author.Rules.{rules}
-use lib.ListN.{length, length-set}
+use lib.ListN.{length-set}
 use Rattle.fill.specs.Room.{IsWidth}
-use Rattle.fill.proofs.Arrays.{Holds, one_more}
+use Rattle.fill.proofs.Arrays.{one_more}
 use Rattle.fill.proofs.room.widths_of.Goals as goal
 
 few : (c : goal.After-dims_of-k) → c.dims_of-k.result ≤ 4

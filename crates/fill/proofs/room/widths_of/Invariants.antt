@@ -1,11 +1,9 @@
 -- `fill::room::widths_of` meets its contract: the numbers below d are the room's widths. Assumes nothing.
 use mathlib.Core.Path.{◌≡◌}
 use Prim.Native.Nat.{◌-◌, ◌≤◌}
-use native.Mathlib.Omega.{arith}
-use borrow.Author.Rules.{rules}
-use lib.ListN.{length, length-set}
+use lib.ListN.{length}
 use Rattle.fill.specs.Room.{IsWidth}
-use Rattle.fill.proofs.Arrays.{Holds, one_more}
+use Rattle.fill.proofs.Arrays.{Holds}
 use Rattle.fill.proofs.room.widths_of.Given as goal
 
 abbrev pub invariant-loop-d : goal.invariant-loop-d

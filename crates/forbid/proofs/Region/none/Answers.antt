@@ -4,7 +4,6 @@ use mathlib.Core.Bool.{false}
 use Rattle.points.specs.declared.Area.{Area}
 use Rattle.forbid.specs.declared.Region.{Region}
 use Rattle.forbid.specs.Region.{no_region}
-use borrow.Author.Rules.{rules}
 use Rattle.forbid.proofs.Region.none.Goals as goal
 
 pub returns : goal.returns

@@ -1,25 +1,16 @@
 -- `pair::pair_area` meets its contract: so far the field is cut in each dimension passed. Assumes nothing.
-use mathlib.Core.Path.{◌≡◌, sym, ap₂, ◌∙◌}
-use mathlib.Core.Logic.{⊎_elim}
+use mathlib.Core.Path.{◌≡◌}
 use mathlib.Core.Bool.{Bool}
 use mathlib.Core.List.{List}
-use Prim.Native.Nat.{ℕ, ◌≤◌, ◌<◌, ◌-◌}
-use native.Mathlib.Omega.{arith}
+use Prim.Native.Nat.{ℕ, ◌≤◌, ◌-◌}
 use lib.IntN.{ℤ}
-use lib.ListN.{length, length-set}
-use borrow.Author.Rules.{rules}
-use Rattle.integers.specs.Integer.{within}
+use lib.ListN.{length}
 use Rattle.integers.specs.Words.{word}
-use Rattle.integers.proofs.Booleans.{implies-in, implies-out}
-use Rattle.integers.proofs.Ints.{ints}
-use Rattle.integers.proofs.Machine.{within_by}
-use Rattle.sheet.specs.Layout.{dims, axes}
-use Rattle.sheet.proofs.Forbidden.{axis}
-use Rattle.points.specs.Area.{coordinates, field_area}
-use Rattle.points.proofs.Sums.{near-back}
-use Rattle.points.proofs.Fills.{Fills, fills-none, fills-skip, fills-set}
+use Rattle.sheet.specs.Layout.{axes}
+use Rattle.points.specs.Area.{coordinates}
+use Rattle.points.proofs.Fills.{Fills}
 use Rattle.forbid.specs.declared.pair.Pair.{Pair}
-use Rattle.forbid.specs.Pair.{side_forbids, solids_forbid}
+use Rattle.forbid.specs.Pair.{side_forbids}
 use Rattle.forbid.proofs.pair.pair_area.Given as goal
 
 -- the pair forbids p in dimension d, if the rule names d

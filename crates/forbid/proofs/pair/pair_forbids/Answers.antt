@@ -1,9 +1,8 @@
 -- `pair::pair_forbids` meets its contract: so far every dimension passed is forbidden. Assumes nothing.
 use mathlib.Core.Path.{◌≡◌, sym, ap, ◌∙◌}
-use mathlib.Core.Bool.{Bool, true}
-use Prim.Native.Nat.{ℕ, ◌≤◌, ◌<◌, ◌-◌}
+use mathlib.Core.Bool.{Bool}
+use Prim.Native.Nat.{ℕ, ◌<◌}
 use native.Mathlib.Omega.{arith}
-use Rattle.integers.specs.Below.{all_below}
 use Rattle.integers.specs.Words.{word}
 use Rattle.integers.proofs.Booleans.{not-true, not-false, true-and}
 use Rattle.integers.proofs.Below.{all-zero, all_more, all-false}

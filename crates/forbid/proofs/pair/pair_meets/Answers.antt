@@ -1,13 +1,10 @@
 -- `pair::pair_meets` meets its contract: so far the field is cut in each dimension passed, and a dimension that clears the row's range clears
 -- every point of its ranges. Assumes nothing.
 use mathlib.Core.Path.{◌≡◌, refl, sym, ap, ap₂, ◌∙◌}
-use mathlib.Core.Logic.{⊎_elim}
-use mathlib.Core.Bool.{Bool}
-use mathlib.Core.List.{List}
-use Prim.Native.Nat.{ℕ, ◌≤◌, ◌<◌, ◌-◌}
+use Prim.Native.Nat.{◌<◌}
 use native.Mathlib.Omega.{arith}
 use lib.IntN.{ℤ}
-use lib.ListN.{length, length-set}
+use lib.ListN.{length-set}
 use borrow.Author.Rules.{rules}
 use Rattle.integers.specs.Integer.{within}
 use Rattle.integers.specs.Words.{word}
@@ -15,14 +12,13 @@ use Rattle.integers.proofs.Booleans.{clash, implies-in, implies-out}
 use Rattle.integers.proofs.Below.{all-at}
 use Rattle.integers.proofs.Ints.{ints}
 use Rattle.integers.proofs.Machine.{within_by}
-use Rattle.sheet.specs.Layout.{dims, axes, low, high}
+use Rattle.sheet.specs.Layout.{dims, low, high}
 use Rattle.sheet.specs.Allowed.{in_ranges}
 use Rattle.sheet.proofs.Forbidden.{axis}
 use Rattle.points.specs.Area.{coordinates, field_area}
 use Rattle.points.proofs.Sums.{bits_back, near-back}
-use Rattle.points.proofs.Fills.{Fills, fills-none, fills-skip, fills-set}
+use Rattle.points.proofs.Fills.{fills-none, fills-skip, fills-set}
 use Rattle.forbid.specs.declared.Region.{Region}
-use Rattle.forbid.specs.declared.pair.Pair.{Pair}
 use Rattle.forbid.specs.Pair.{side_forbids, solids_forbid}
 use Rattle.forbid.specs.Region.{no_region}
 use Rattle.forbid.proofs.pair.pair_meets.Invariants.{in_side}
@@ -117,16 +113,16 @@ loop-d-preserved c =
     let x = axis s.args.block.now (is-dim l) in
     elim c.if-names_dim.branch [
       | then-names_dim+else-is_apart w ↦
-      let f = w.interval_of-interval.ensures in
-      let from = near-back f.from_within in
-      let to = near-back f.to_within in (
-        omega (arith, l.loop-d-test.true),
-        rw w.low-is (simp length-set i.1),
-        rw w.high-is (simp length-set i.2),
-        rw (w.low-is, w.high-is) (fills-set _ i.3 (within_by from f.from_within) (within_by to f.to_within) (few l) x i.1 i.2
-        (λ p. ap₂ (λ (y z : ℤ). within y z (word p d)) (from ∙ f.from) (to ∙ f.to)
-        ∙ sym (implies-in _ (sym c.names_dim.ensures ∙ w.if-names_dim.true)))),
-      )
+          let f = w.interval_of-interval.ensures in
+          let from = near-back f.from_within in
+          let to = near-back f.to_within in (
+            omega (arith, l.loop-d-test.true),
+            rw w.low-is (simp length-set i.1),
+            rw w.high-is (simp length-set i.2),
+            rw (w.low-is, w.high-is) (fills-set _ i.3 (within_by from f.from_within) (within_by to f.to_within) (few l) x i.1 i.2
+                (λ p. ap₂ (λ (y z : ℤ). within y z (word p d)) (from ∙ f.from) (to ∙ f.to)
+                ∙ sym (implies-in _ (sym c.names_dim.ensures ∙ w.if-names_dim.true)))),
+          )
       | else-names_dim w ↦ (
         omega (arith, l.loop-d-test.true),
         rw w.low-is i.1,

@@ -1,30 +1,17 @@
 -- `pair::pair_meets` meets its contract: so far the field is cut in each dimension passed, and a dimension that clears the row's range clears
 -- every point of its ranges. Assumes nothing.
-use mathlib.Core.Path.{◌≡◌, refl, sym, ap, ap₂, ◌∙◌}
-use mathlib.Core.Logic.{⊎_elim}
+use mathlib.Core.Path.{◌≡◌}
 use mathlib.Core.Bool.{Bool}
 use mathlib.Core.List.{List}
-use Prim.Native.Nat.{ℕ, ◌≤◌, ◌<◌, ◌-◌}
-use native.Mathlib.Omega.{arith}
+use Prim.Native.Nat.{ℕ, ◌≤◌, ◌-◌}
 use lib.IntN.{ℤ}
-use lib.ListN.{length, length-set}
-use borrow.Author.Rules.{rules}
-use Rattle.integers.specs.Integer.{within}
+use lib.ListN.{length}
 use Rattle.integers.specs.Words.{word}
-use Rattle.integers.proofs.Booleans.{clash, implies-in, implies-out}
-use Rattle.integers.proofs.Below.{all-at}
-use Rattle.integers.proofs.Ints.{ints}
-use Rattle.integers.proofs.Machine.{within_by}
-use Rattle.sheet.specs.Layout.{dims, axes, low, high}
-use Rattle.sheet.specs.Allowed.{in_ranges}
-use Rattle.sheet.proofs.Forbidden.{axis}
-use Rattle.points.specs.Area.{coordinates, field_area}
-use Rattle.points.proofs.Sums.{bits_back, near-back}
-use Rattle.points.proofs.Fills.{Fills, fills-none, fills-skip, fills-set}
-use Rattle.forbid.specs.declared.Region.{Region}
+use Rattle.sheet.specs.Layout.{axes}
+use Rattle.points.specs.Area.{coordinates}
+use Rattle.points.proofs.Fills.{Fills}
 use Rattle.forbid.specs.declared.pair.Pair.{Pair}
-use Rattle.forbid.specs.Pair.{side_forbids, solids_forbid}
-use Rattle.forbid.specs.Region.{no_region}
+use Rattle.forbid.specs.Pair.{side_forbids}
 use Rattle.forbid.proofs.pair.pair_meets.Given as goal
 
 -- the pair forbids p in dimension d, if the rule names d

@@ -1,13 +1,11 @@
 -- `row::forbidding_boxes` meets its contract: so far no pair of boxes forbids the point, and the first that does is found. Assumes nothing.
-use mathlib.Core.Path.{◌≡◌, sym, ◌∙◌}
-use mathlib.Core.Logic.{⊎_elim}
-use mathlib.Core.Bool.{false}
-use Prim.Native.Nat.{◌<◌, ◌-◌}
+use mathlib.Core.Path.{sym, ◌∙◌}
+use Prim.Native.Nat.{◌<◌}
 use native.Mathlib.Omega.{arith}
 use Rattle.sheet.specs.Layout.{boxes}
 use Rattle.outline.proofs.Solids.{shape-few}
-use Rattle.forbid.proofs.Solids.{forbids_to, hull-box-places, box-places}
-use Rattle.forbid.proofs.Chains.{Walk, walk_first, walk-next, walk-over, ClearOf, clear-hull, all-clear}
+use Rattle.forbid.proofs.Solids.{hull-box-places, box-places}
+use Rattle.forbid.proofs.Chains.{walk_first, walk-next, walk-over, clear-hull, all-clear}
 use Rattle.forbid.proofs.row.forbidding_boxes.Goals as goal
 use Rattle.forbid.proofs.row.forbidding_boxes.Goals.{then-pair_forbids+else-loop-own-test, else-pair_forbids}
 
@@ -88,7 +86,7 @@ pairs-preserved c =
     (elim c.if-pair_forbids.branch [
       | then-pair_forbids+else-loop-own-test x ↦ walk-over x.loop-own.invariant (omega (arith, x.loop-own-test.false, l.boxes_of-n.ensures))
       | else-pair_forbids x ↦
-      clear-hull _ _ _ _ _ _ _ w.outline _ l.hull_of-hull.ensures w.own (sym c.pair_forbids.ensures ∙ x.if-pair_forbids.false)
+          clear-hull _ _ _ _ _ _ _ w.outline _ l.hull_of-hull.ensures w.own (sym c.pair_forbids.ensures ∙ x.if-pair_forbids.false)
     ])
     c.after-other.ensures
 

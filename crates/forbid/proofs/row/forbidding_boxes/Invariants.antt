@@ -1,13 +1,9 @@
 -- `row::forbidding_boxes` meets its contract: so far no pair of boxes forbids the point, and the first that does is found. Assumes nothing.
-use mathlib.Core.Path.{◌≡◌, sym, ◌∙◌}
-use mathlib.Core.Logic.{⊎_elim}
+use mathlib.Core.Path.{◌≡◌}
 use mathlib.Core.Bool.{false}
-use Prim.Native.Nat.{◌<◌, ◌-◌}
-use native.Mathlib.Omega.{arith}
-use Rattle.sheet.specs.Layout.{boxes}
-use Rattle.outline.proofs.Solids.{shape-few}
-use Rattle.forbid.proofs.Solids.{forbids_to, hull-box-places, box-places}
-use Rattle.forbid.proofs.Chains.{Walk, walk_first, walk-next, walk-over, ClearOf, clear-hull, all-clear}
+use Prim.Native.Nat.{◌-◌}
+use Rattle.forbid.proofs.Solids.{forbids_to}
+use Rattle.forbid.proofs.Chains.{Walk, ClearOf}
 use Rattle.forbid.proofs.row.forbidding_boxes.Given as goal
 
 abbrev pub invariant-loop-own : goal.invariant-loop-own

@@ -1,8 +1,7 @@
 -- `row::set_region` meets its contract: so far each shape passed forbids the point, and the area is what they share. Assumes nothing.
 use mathlib.Core.Path.{◌≡◌, sym, ◌∙◌, subst}
-use mathlib.Core.Logic.{⊎_elim}
 use mathlib.Core.Bool.{true}
-use Prim.Native.Nat.{ℕ, ◌+◌, ◌-◌, ◌^◌, ◌≤◌, ◌<◌}
+use Prim.Native.Nat.{ℕ, ◌+◌, ◌^◌, ◌≤◌, ◌<◌}
 use native.Mathlib.Omega.{arith}
 use lib.Count.{trailing_le}
 use Rattle.integers.proofs.Booleans.{not-true, not-false}
@@ -12,9 +11,8 @@ use Rattle.sheet.specs.Accepted.{Count}
 use Rattle.sheet.proofs.Accepted.{set-count}
 use Rattle.words.proofs.Shapes.{none_before, none-past}
 use Rattle.points.proofs.Cut.{cuts-none}
-use Rattle.forbid.specs.Region.{IsRegion}
 use Rattle.forbid.proofs.Regions.{cut-region, miss, missed-too, forbids-same, forbids-both}
-use Rattle.forbid.proofs.Rows.{shapes_to, shapes-none, shapes-skip, shapes-more, shapes-all, set-missed}
+use Rattle.forbid.proofs.Rows.{shapes-none, shapes-skip, shapes-more, shapes-all, set-missed}
 use Rattle.forbid.proofs.row.set_region.Goals as goal
 use Rattle.forbid.proofs.row.set_region.Goals.{then-has_shape+else-not-hit, else-has_shape}
 
@@ -102,10 +100,10 @@ loop-t-preserved c =
       few l,
       λ i. elim c.if-has_shape.branch [
         | then-has_shape+else-not-hit w ↦
-        rw w.area-is (forbids-same (shapes-more _ _ _ i _ _ _ (sym c.has_shape.ensures ∙ w.if-has_shape.true))
-        (forbids-both (before i) (not-false w.if-not-hit.false-raw) (w.shapes_region-x.ensures i) (rw (is-axes l) at w.common-area.ensures)))
+            rw w.area-is (forbids-same (shapes-more _ _ _ i _ _ _ (sym c.has_shape.ensures ∙ w.if-has_shape.true))
+            (forbids-both (before i) (not-false w.if-not-hit.false-raw) (w.shapes_region-x.ensures i) (rw (is-axes l) at w.common-area.ensures)))
         | else-has_shape w ↦
-        rw w.area-is (forbids-same (shapes-skip _ _ _ i _ _ _ (sym c.has_shape.ensures ∙ w.if-has_shape.false)) (before i))
+            rw w.area-is (forbids-same (shapes-skip _ _ _ i _ _ _ (sym c.has_shape.ensures ∙ w.if-has_shape.false)) (before i))
       ],
     )
 

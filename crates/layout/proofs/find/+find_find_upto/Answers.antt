@@ -4,13 +4,13 @@ use mathlib.Core.Path.{◌≡◌, refl, sym, ap, ◌∙◌, subst}
 use mathlib.Core.Bool.{Bool, true}
 use mathlib.Core.List.{List, ◌++◌}
 use mathlib.Core.Option.{some}
-use Prim.Native.Nat.{ℕ, ◌+◌, ◌*◌, ◌≤◌, ◌<◌}
+use Prim.Native.Nat.{ℕ, ◌+◌, ◌*◌, ◌<◌}
 use native.Mathlib.Omega.{arith}
 use lib.IntN.{ℤ, pos}
 use lib.ListN.{length, take, drop, replicate}
 use lib.Seq.{length-take-le}
 use Rattle.integers.proofs.Booleans.{clash}
-use Rattle.sheet.specs.Layout.{layout_table_most, layout_rows_most}
+use Rattle.sheet.specs.Layout.{layout_table_most}
 use Rattle.sheet.specs.Settle.{extent, settle_of}
 use Rattle.sheet.specs.FirstLayout.{Places}
 use Rattle.sheet.proofs.Accepted.{accepted-head, accepted-table}
@@ -67,8 +67,7 @@ find-returns-then-s-eq0 t c =
 pub find-find_upto-requires : goal.find-find_upto-requires
 find-find_upto-requires t c =
     let f = c.settled.ensures.yes c.if-not-settled.false in
-    let less = part-extent c.requires.0.accepted (kept-at c.requires.0 c.loop-failures.invariant.0 f).part in
-    (
+    let less = part-extent c.requires.0.accepted (kept-at c.requires.0 c.loop-failures.invariant.0 f).part in (
       omega (arith, c.decreases, less),
       (small-at c.requires.0 c.loop-failures.invariant.0 f, c.pick-s.ensures.some (omega (arith, c.if-s-eq0.false))),
     )
@@ -85,7 +84,7 @@ find-keep_past-requires t c =
     let w = small-at c.requires.0 c.loop-failures.invariant.0 (c.settled.ensures.yes c.if-not-settled.false) in
     let split = c.pick-s.ensures.some (omega (arith, c.if-s-eq0.false)) in
     let on : OnNumber block c.settled.new.table s.row s.column =
-        record { head = accepted-head _ _ w.accepted; table = accepted-table _ _ w.accepted; has = split.has } in (
+    record { head = accepted-head _ _ w.accepted; table = accepted-table _ _ w.accepted; has = split.has } in (
       subst (λ (w : List ℤ). OnNumber block w s.row s.column) (sym (c.find_upto.ensures.same c.if-find_upto.false)) on,
       split-near block c.settled.new.table w.accepted _ _ _ split,
     )
@@ -115,7 +114,7 @@ find-loop-failures-preserved t c =
     let split = c.pick-s.ensures.some (omega (arith, c.if-s-eq0.false)) in
     let past = keeps-past block (kept-at c.requires.0 c.loop-failures.invariant.0 f) _ _ _ split (c.find_upto.ensures.no c.if-find_upto.false) in (
       subst (Keeps block c.args.table.now)
-      (sym (past-left block c.pick-s.result c.keep_past.ensures (c.find_upto.ensures.same c.if-find_upto.false))) past,
+          (sym (past-left block c.pick-s.result c.keep_past.ensures (c.find_upto.ensures.same c.if-find_upto.false))) past,
       omega (arith, split.has.upto, w.few),
     )
 

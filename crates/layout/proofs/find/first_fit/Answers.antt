@@ -6,7 +6,7 @@ use mathlib.Core.Option.{some}
 use native.Mathlib.Omega.{arith}
 use lib.IntN.{ℤ}
 use Rattle.integers.proofs.Booleans.{clash, not-false}
-use Rattle.sheet.specs.Settle.{extent, settle_of}
+use Rattle.sheet.specs.Settle.{settle_of}
 use Rattle.sheet.proofs.Accepted.{accepted-head, accepted-table}
 use Rattle.sheet.proofs.Places.{settle-places, settle-falls}
 use Rattle.splits.specs.Splits.{SplitAt, Part}

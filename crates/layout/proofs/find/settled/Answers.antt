@@ -1,5 +1,4 @@
 -- `layout::find::settled` meets its contract: what the answer of `settle::settle` says. Assumes nothing.
-use borrow.Author.Rules.{rules}
 use Rattle.integers.proofs.Booleans.{clash}
 use mathlib.Core.Path.{refl}
 use Rattle.layout.proofs.Settles.{found-settled, found-no-layout, never-refused}

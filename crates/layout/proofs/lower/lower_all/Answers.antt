@@ -1,7 +1,7 @@
 -- `layout::lower::lower_all` meets its contract: the numbers one after another. Assumes nothing.
 use mathlib.Core.Path.{◌≡◌, sym, ap, ap₂, ◌∙◌, subst}
 use mathlib.Core.List.{List}
-use Prim.Native.Nat.{ℕ, suc, ◌+◌, ◌*◌, ◌-◌, ◌≤◌}
+use Prim.Native.Nat.{ℕ, suc, ◌+◌, ◌*◌, ◌≤◌}
 use native.Mathlib.Nat.{mul-le-mul}
 use native.Mathlib.Numerals.{add-one}
 use native.Mathlib.Omega.{arith}
@@ -74,11 +74,10 @@ pub loop-m-smaller : goal.loop-m-smaller
 loop-m-smaller c = omega (arith, c.loop-m-test.true)
 
 pub loop-m-preserved : goal.loop-m-preserved
-loop-m-preserved c =
-    (
-      rw (add-one c.loop-m.m) (lowered-then (block c.before.before.before.before.before.before.before.before) c.loop-m.invariant.0 c.lower.ensures),
-      omega (arith, c.loop-m-test.true),
-    )
+loop-m-preserved c = (
+  rw (add-one c.loop-m.m) (lowered-then (block c.before.before.before.before.before.before.before.before) c.loop-m.invariant.0 c.lower.ensures),
+  omega (arith, c.loop-m-test.true),
+)
 
 pub shape_of-rest : goal.shape_of-rest
 shape_of-rest c = c.loop-m.invariant.0.part.inside.as_long

@@ -1,14 +1,11 @@
 -- `kept::kept_shapes` meets its contract: so far what is kept is that of the shapes passed. Assumes nothing.
 use mathlib.Core.Path.{◌≡◌, refl, sym, ◌∙◌, subst}
-use Prim.Native.Nat.{ℕ, ◌+◌, ◌^◌, ◌≤◌, ◌<◌, ◌-◌}
+use Prim.Native.Nat.{ℕ, ◌+◌, ◌^◌, ◌<◌, ◌-◌}
 use native.Mathlib.Numerals.{add-one}
 use native.Mathlib.Omega.{arith}
 use lib.Count.{count_trailing_zeros, trailing_le}
-use lib.ListN.{length}
 use Rattle.words.proofs.Shapes.{none_before}
-use Rattle.points.specs.Area.{area_words}
 use Rattle.sheet.proofs.Accepted.{set-count}
-use Rattle.narrow.specs.Shapes.{KeptTo}
 use Rattle.narrow.proofs.KeptTo.{kept-start, kept-first, kept-rest}
 use Rattle.narrow.proofs.kept.kept_shapes.Goals as goal
 
@@ -63,13 +60,12 @@ pub loop-s-smaller : goal.loop-s-smaller
 loop-s-smaller c = omega (arith, c.loop-s-test.true)
 
 pub loop-s-preserved : goal.loop-s-preserved
-loop-s-preserved c =
-    (
-      omega (arith, c.loop-s-test.true),
-      rw add-one c.with_next-shapes.ensures,
-      c.suspects-1.given ∙ c.loop-s.invariant.2,
-      c.ends-1.given ∙ c.loop-s.invariant.3,
-    )
+loop-s-preserved c = (
+  omega (arith, c.loop-s-test.true),
+  rw add-one c.with_next-shapes.ensures,
+  c.suspects-1.given ∙ c.loop-s.invariant.2,
+  c.ends-1.given ∙ c.loop-s.invariant.3,
+)
 
 pub shape_of-suspects : goal.shape_of-suspects
 shape_of-suspects c = c.loop-s.invariant.2

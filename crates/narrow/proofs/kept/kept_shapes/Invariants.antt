@@ -1,15 +1,9 @@
 -- `kept::kept_shapes` meets its contract: so far what is kept is that of the shapes passed. Assumes nothing.
-use mathlib.Core.Path.{◌≡◌, refl, sym, ◌∙◌, subst}
-use Prim.Native.Nat.{ℕ, ◌+◌, ◌^◌, ◌≤◌, ◌<◌, ◌-◌}
-use native.Mathlib.Numerals.{add-one}
-use native.Mathlib.Omega.{arith}
-use lib.Count.{count_trailing_zeros, trailing_le}
+use mathlib.Core.Path.{◌≡◌}
+use Prim.Native.Nat.{◌≤◌, ◌-◌}
 use lib.ListN.{length}
-use Rattle.words.proofs.Shapes.{none_before}
 use Rattle.points.specs.Area.{area_words}
-use Rattle.sheet.proofs.Accepted.{set-count}
 use Rattle.narrow.specs.Shapes.{KeptTo}
-use Rattle.narrow.proofs.KeptTo.{kept-start, kept-first, kept-rest}
 use Rattle.narrow.proofs.kept.kept_shapes.Given as goal
 
 abbrev pub invariant-loop-s : goal.invariant-loop-s

@@ -10,7 +10,6 @@ use Rattle.integers.proofs.Booleans.{not-true, not-false}
 use Rattle.sheet.specs.Layout.{has_shape}
 use Rattle.narrow.specs.Shapes.{KeptTo}
 use Rattle.narrow.proofs.KeptTo.{member-shape, below_next, kept_next, kept-skip}
-use borrow.Author.Rules.{rules}
 use Rattle.narrow.proofs.kept.with_next.Goals as goal
 
 module _ (c : goal.Start) where

@@ -25,7 +25,6 @@ use Rattle.narrow.proofs.Taking.{taken-edges}
 use Rattle.narrow.proofs.Widens.{high-in, allowed-there, none_allowed}
 use Rattle.narrow.proofs.Corners.{corners-reach}
 use Rattle.narrow.proofs.KeptTo.{kept-shape, kept-not, ends-skip}
-use borrow.Author.Rules.{rules}
 use Rattle.narrow.proofs.kept.with_shape.Lts as lts
 use Rattle.narrow.proofs.kept.with_shape.Reads as reads
 use Rattle.narrow.proofs.kept.with_shape.Tie as tie

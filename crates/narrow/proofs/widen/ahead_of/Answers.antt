@@ -8,7 +8,6 @@ use Rattle.integers.proofs.Machine.{bnd, num, ◌+ʷ◌, ◌-ʷ◌, sum_fits, di
 use Rattle.points.specs.Area.{reach}
 use Rattle.points.proofs.Sums.{sum_is}
 use Rattle.points.proofs.Cut.{cuts-same}
-use borrow.Author.Rules.{rules}
 use Rattle.narrow.proofs.widen.ahead_of.Goals as goal
 
 pub overflow_add-z : goal.overflow_add-z

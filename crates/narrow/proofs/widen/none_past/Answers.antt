@@ -7,7 +7,6 @@ use mir.Val.{to_z, of_z}
 use Rattle.points.specs.Ends.{end_at}
 use Rattle.points.proofs.Runs.{low_of, high-of}
 use Rattle.points.proofs.Sums.{bits_back}
-use borrow.Author.Rules.{rules}
 use Rattle.narrow.proofs.widen.none_past.Lts as lts
 use Rattle.narrow.proofs.widen.none_past.Reads as reads
 use Rattle.narrow.proofs.widen.none_past.Tie as tie

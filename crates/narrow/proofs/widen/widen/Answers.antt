@@ -11,9 +11,8 @@ use Rattle.sheet.specs.Layout.{axes}
 use Rattle.points.specs.declared.Area.{Area}
 use Rattle.points.specs.Area.{coordinates, area_words}
 use Rattle.nearby.specs.Listing.{Listed}
-use Rattle.narrow.specs.Ends.{end_number, EdgesTo, Edges, Widening}
+use Rattle.narrow.specs.Ends.{end_number, Widening}
 use Rattle.narrow.proofs.Taking.{edges_more}
-use borrow.Author.Rules.{rules}
 use Rattle.narrow.proofs.widen.widen.Lts as lts
 use Rattle.narrow.proofs.widen.widen.Reads as reads
 use Rattle.narrow.proofs.widen.widen.Tie as tie

@@ -1,19 +1,10 @@
 -- `widen::widen` meets its contract: the ends passed have taken in the shape. Assumes nothing.
-use mathlib.Core.Path.{◌≡◌, sym, ◌∙◌, subst}
-use mathlib.Core.List.{List}
-use mathlib.Core.Bool.{Bool, true, false}
-use Prim.Native.Nat.{ℕ, ◌+◌, ◌≤◌, ◌<◌, ◌-◌}
-use native.Mathlib.Omega.{arith}
-use lib.Dec.{leb}
-use lib.IntN.{ℤ}
+use mathlib.Core.Path.{◌≡◌}
+use Prim.Native.Nat.{◌+◌, ◌≤◌, ◌-◌}
 use lib.ListN.{length}
-use Rattle.sheet.specs.Layout.{axes}
-use Rattle.points.specs.declared.Area.{Area}
-use Rattle.points.specs.Area.{coordinates, area_words}
+use Rattle.points.specs.Area.{area_words}
 use Rattle.nearby.specs.Listing.{Listed}
-use Rattle.narrow.specs.Ends.{end_number, EdgesTo, Edges, Widening}
-use Rattle.narrow.proofs.Taking.{edges_more}
-use borrow.Author.Rules.{rules}
+use Rattle.narrow.specs.Ends.{EdgesTo, Edges}
 use Rattle.narrow.proofs.widen.widen.Given as goal
 
 abbrev pub invariant-loop-e : goal.invariant-loop-e

@@ -12,7 +12,6 @@ use Rattle.points.specs.Ends.{end_at}
 use Rattle.points.proofs.Sums.{bits_back}
 use Rattle.narrow.specs.Ends.{beyond, past-from, past_to, none-past}
 use Rattle.narrow.proofs.OneEnd.{Begun, few, end-near, edge_stays, ahead-searched, edge-alone, others-kept, edge-taken}
-use borrow.Author.Rules.{rules}
 use Rattle.narrow.proofs.widen.widen_end.Lts as lts
 use Rattle.narrow.proofs.widen.widen_end.Reads as reads
 use Rattle.narrow.proofs.widen.widen_end.Tie as tie

@@ -1,11 +1,9 @@
 -- `nearby::gather::add_area` meets its contract: an area that is not remembered is a suspect's, and where there is no room for that the list is
 -- full. Assumes nothing.
 use mathlib.Core.Path.{◌≡◌, ◌∙◌}
-use mathlib.Core.Logic.{⊎_elim}
 use Prim.Native.Nat.{suc, ◌≤◌}
 use native.Mathlib.Omega.{arith}
 use lib.ListN.{length}
-use borrow.Author.Rules.{rules}
 use Rattle.nearby.specs.Places.{suspect_at}
 use Rattle.nearby.proofs.Gathers.{grows-full, grows-known, grows-suspect}
 use Rattle.nearby.proofs.gather.add_area.Lts as lts

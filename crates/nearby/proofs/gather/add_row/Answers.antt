@@ -2,7 +2,6 @@
 -- ranges add nothing. Assumes nothing.
 use mathlib.Core.Path.{sym, ◌∙◌}
 use native.Mathlib.Omega.{arith}
-use borrow.Author.Rules.{rules}
 use Rattle.integers.proofs.Booleans.{not-true, not-false}
 use Rattle.outline.proofs.Solids.{shape-few}
 use Rattle.sheet.proofs.Accepted.{set-count}

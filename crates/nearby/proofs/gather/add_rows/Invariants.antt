@@ -1,17 +1,10 @@
 -- `nearby::gather::add_rows` meets its contract: so far the rows passed are listed. Assumes nothing.
-use mathlib.Core.Path.{◌≡◌, refl, ◌∙◌}
+use mathlib.Core.Path.{◌≡◌}
 use Prim.Native.Nat.{suc, ◌-◌, ◌≤◌}
-use native.Mathlib.Omega.{arith}
-use native.Mathlib.Numerals.{add-one}
 use lib.ListN.{length}
-use borrow.Author.Rules.{rules}
 use Rattle.integers.specs.Below.{any_below}
-use Rattle.sheet.specs.Layout.{rows}
 use Rattle.sheet.specs.Allowed.{row_forbids}
-use Rattle.forbid.specs.Region.{rows_forbid}
-use Rattle.integers.proofs.Below.{up_next}
 use Rattle.nearby.specs.Adding.{Open, Grows}
-use Rattle.nearby.proofs.Gathers.{grows_start, grows-more, open_after}
 use Rattle.nearby.proofs.gather.add_rows.Given as goal
 
 abbrev pub invariant-loop-j : goal.invariant-loop-j

@@ -5,7 +5,6 @@ use mathlib.Core.List.{List}
 use Prim.Native.Nat.{ℕ}
 use native.Mathlib.Omega.{arith}
 use lib.IntN.{ℤ}
-use borrow.Author.Rules.{rules}
 use Rattle.integers.specs.Bits.{bit}
 use Rattle.integers.specs.Words.{word}
 use Rattle.integers.proofs.Booleans.{clash, not-true, not-false, and-true, fails}

@@ -1,6 +1,5 @@
 -- `nearby::gather::fills_hulls` meets its contract: it says yes where all three tests do. Assumes nothing.
 use mathlib.Core.Path.{refl, sym, ◌∙◌}
-use borrow.Author.Rules.{rules}
 use Rattle.integers.proofs.Booleans.{clash, not-false}
 use Rattle.nearby.proofs.gather.fills_hulls.Goals as goal
 

@@ -1,24 +1,15 @@
 -- `nearby::gather::gather` meets its contract: so far what the rules passed forbid is listed, and none that counts is left where the loop ends.
 -- Assumes nothing.
-use mathlib.Core.Path.{◌≡◌, refl, ◌∙◌, subst}
-use mathlib.Core.Logic.{⊎_elim}
-use mathlib.Core.Bool.{true, false, ◌&&◌}
-use Prim.Native.Nat.{ℕ, ◌-◌, ◌^◌, ◌≤◌, ◌<◌}
-use native.Mathlib.Omega.{arith}
+use mathlib.Core.Path.{◌≡◌}
+use mathlib.Core.Bool.{◌&&◌}
+use Prim.Native.Nat.{◌-◌, ◌≤◌}
 use lib.ListN.{length}
 use Rattle.integers.specs.Below.{any_below}
 use Rattle.integers.specs.Bits.{bit}
 use Rattle.integers.specs.Words.{word}
-use Rattle.integers.proofs.Booleans.{clash}
-use Rattle.integers.proofs.Below.{below_or}
-use Rattle.integers.proofs.Bits.{bit_past}
-use Rattle.sheet.specs.Layout.{rules}
 use Rattle.outline.specs.Places.{rules_at}
 use Rattle.forbid.specs.Region.{rule_forbids}
 use Rattle.nearby.specs.Adding.{Open, Grows}
-use Rattle.nearby.proofs.Remembered.{known-none}
-use Rattle.nearby.proofs.Covers.{counted-forbid}
-use Rattle.nearby.proofs.Gathers.{gathered-start, suspects-none, grows_start, grows-more, open_after}
 use Rattle.nearby.proofs.gather.gather.Given as goal
 
 abbrev pub invariant-loop-r : goal.invariant-loop-r

@@ -1,7 +1,6 @@
 -- `nearby::gather::hulls` meets its contract. Assumes nothing.
 use mathlib.Core.Path.{ap₂}
 use Prim.Native.Nat.{ℕ}
-use borrow.Author.Rules.{rules}
 use Rattle.nearby.proofs.gather.hulls.Goals as goal
 
 pub returns : goal.returns

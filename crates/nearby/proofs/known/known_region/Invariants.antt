@@ -1,21 +1,13 @@
 -- `nearby::known::known_region` meets its contract: so far none of the areas passed, from the last one on, holds the point.
 -- Assumes nothing.
-use mathlib.Core.Path.{◌≡◌, refl, sym, ap, ◌∙◌, subst}
-use mathlib.Core.Logic.{⊎_elim}
+use mathlib.Core.Path.{◌≡◌}
 use mathlib.Core.Bool.{false}
 use mathlib.Core.List.{List}
-use Prim.Native.Nat.{ℕ, ◌-◌, ◌≤◌, ◌<◌}
-use native.Mathlib.Omega.{arith}
-use borrow.Author.Rules.{rules}
+use Prim.Native.Nat.{ℕ, ◌≤◌, ◌<◌}
 use lib.IntN.{ℤ}
-use Rattle.integers.proofs.Booleans.{clash}
-use Rattle.integers.proofs.Below.{same_or, false-any}
 use Rattle.sheet.specs.Layout.{axes}
-use Rattle.points.specs.declared.Area.{Area}
 use Rattle.points.specs.Area.{in_area}
-use Rattle.forbid.specs.Region.{no_region}
 use Rattle.nearby.specs.Places.{known_count, known_area}
-use Rattle.nearby.specs.Known.{known_holds, KnownRegion}
 use Rattle.nearby.proofs.known.known_region.Given as goal
 
 -- no area from e on holds p

@@ -1,7 +1,6 @@
 -- `nearby::known::put_count` meets its contract: a small count is cast whole. Assumes nothing.
 use mathlib.Core.Path.{ap}
 use native.Mathlib.Omega.{arith}
-use borrow.Author.Rules.{rules}
 use lib.IntN.{ℤ}
 use lib.ListN.{set}
 use mir.Syntax.{w64}

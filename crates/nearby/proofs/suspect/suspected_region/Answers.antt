@@ -1,9 +1,9 @@
 -- `nearby::suspect::suspected_region` meets its contract: so far no suspect whose area holds the point forbids it. Assumes nothing.
 use mathlib.Core.Path.{◌≡◌, sym, ap, ap₂, ◌∙◌, subst}
 use mathlib.Core.Logic.{⊎_elim}
-use mathlib.Core.Bool.{Bool, true, false}
+use mathlib.Core.Bool.{Bool, true}
 use mathlib.Core.List.{List}
-use Prim.Native.Nat.{ℕ, suc, ◌-◌, ◌≤◌, ◌<◌}
+use Prim.Native.Nat.{ℕ, suc, ◌≤◌, ◌<◌}
 use native.Mathlib.Numerals.{add-one}
 use native.Mathlib.Omega.{arith}
 use lib.IntN.{ℤ}
@@ -177,16 +177,16 @@ silent c i e =
     let list = a.suspects.now in
     elim c.if-area_holds.branch [
       | then-area_holds+then-has_one_shape+else-hit w ↦
-      of-suspect _ _ i _ list (at l) _ (w.rule_place-r.ensures.1 ∙ w.count_at.ensures)
-      (w.row_place-j.ensures.1 ∙ w.count_at-then-area_holds.ensures)
-      ∙ miss (by-lowest _ _ i _ _ w.has_one_shape.ensures w.if-has_one_shape.true w.lowest_shape-t.ensures (w.shapes_region-x.ensures i))
-      w.if-hit.false
+          of-suspect _ _ i _ list (at l) _ (w.rule_place-r.ensures.1 ∙ w.count_at.ensures)
+          (w.row_place-j.ensures.1 ∙ w.count_at-then-area_holds.ensures)
+          ∙ miss (by-lowest _ _ i _ _ w.has_one_shape.ensures w.if-has_one_shape.true w.lowest_shape-t.ensures (w.shapes_region-x.ensures i))
+          w.if-hit.false
       | then-area_holds+else-has_one_shape+else-hit-2 w ↦
-      of-suspect _ _ i _ list (at l) _ (w.rule_place-r.ensures.1 ∙ w.count_at.ensures)
-      (w.row_place-j.ensures.1 ∙ w.count_at-then-area_holds.ensures)
-      ∙ miss (w.set_region-x.ensures i) w.if-hit-2.false
+          of-suspect _ _ i _ list (at l) _ (w.rule_place-r.ensures.1 ∙ w.count_at.ensures)
+          (w.row_place-j.ensures.1 ∙ w.count_at-then-area_holds.ensures)
+          ∙ miss (w.set_region-x.ensures i) w.if-hit-2.false
       | else-area_holds w ↦ clash (c.area_holds.ensures
-      ∙ ap (λ (k : ℕ). in_area k (suspect_area list (at l)) a.p) l.axes_of-k.ensures ∙ e) w.if-area_holds.false
+          ∙ ap (λ (k : ℕ). in_area k (suspect_area list (at l)) a.p) l.axes_of-k.ensures ∙ e) w.if-area_holds.false
     ]
 
 pub loop-e-preserved : goal.loop-e-preserved

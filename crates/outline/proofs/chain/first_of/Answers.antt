@@ -1,6 +1,5 @@
 -- `outline::chain::first_of` meets its contract: the word is what the chain says of it. Assumes nothing.
 use native.Mathlib.Omega.{arith}
-use borrow.Author.Rules.{rules}
 use Rattle.outline.proofs.chain.first_of.Goals as goal
 
 pub count_at-requires : goal.count_at-requires

@@ -5,7 +5,6 @@ use Prim.Native.Nat.{ℕ, ◌<◌}
 use native.Mathlib.Omega.{arith}
 use lib.IntN.{ℤ, pos}
 use lib.ListN.{set}
-use borrow.Author.Rules.{rules}
 use Rattle.integers.specs.Integer.{nat}
 use Rattle.sheet.specs.Layout.{shape_of}
 use Rattle.outline.specs.Places.{shapes_most, first_at}

@@ -1,6 +1,6 @@
 -- `outline::chain::link_boxes` meets its contract: the boxes from b on are linked. Assumes nothing.
 use mathlib.Core.Path.{◌≡◌, sym, ap, ◌∙◌, subst}
-use Prim.Native.Nat.{◌+◌, ◌-◌, ◌≤◌}
+use Prim.Native.Nat.{◌+◌, ◌-◌}
 use native.Mathlib.Omega.{arith}
 use lib.IntN.{pos}
 use Rattle.outline.specs.Chain.{ChainedFrom}
@@ -14,12 +14,11 @@ pub unlink-requires : goal.unlink-requires
 unlink-requires c = omega (arith, c.boxes_of-n.ensures, c.requires.head.few_boxes)
 
 pub loop-b-init : goal.loop-b-init
-loop-b-init c =
-    (
-      omega arith,
-      subst (ChainedFrom c.args.block.now c.unlink.new.outline) (sym c.boxes_of-n.ensures)
-          (chained-start c.requires.head.few_boxes (λ t k. c.unlink.ensures t k ∙ ap pos c.boxes_of-n.ensures)),
-    )
+loop-b-init c = (
+  omega arith,
+  subst (ChainedFrom c.args.block.now c.unlink.new.outline) (sym c.boxes_of-n.ensures)
+      (chained-start c.requires.head.few_boxes (λ t k. c.unlink.ensures t k ∙ ap pos c.boxes_of-n.ensures)),
+)
 
 pub overflow_sub-b : goal.overflow_sub-b
 overflow_sub-b c = omega arith

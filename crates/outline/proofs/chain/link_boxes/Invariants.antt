@@ -1,10 +1,6 @@
 -- `outline::chain::link_boxes` meets its contract: the boxes from b on are linked. Assumes nothing.
-use mathlib.Core.Path.{◌≡◌, sym, ap, ◌∙◌, subst}
-use Prim.Native.Nat.{◌+◌, ◌-◌, ◌≤◌}
-use native.Mathlib.Omega.{arith}
-use lib.IntN.{pos}
+use Prim.Native.Nat.{◌≤◌}
 use Rattle.outline.specs.Chain.{ChainedFrom}
-use Rattle.outline.proofs.Chains.{chained-start}
 use Rattle.outline.proofs.chain.link_boxes.Given as goal
 
 abbrev pub invariant-loop-b : goal.invariant-loop-b

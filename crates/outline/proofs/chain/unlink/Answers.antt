@@ -2,7 +2,7 @@
 use mathlib.Core.Path.{◌≡◌, ap, ◌∙◌, subst}
 use mathlib.Core.Logic.{⊎_elim}
 use mathlib.Core.List.{List}
-use Prim.Native.Nat.{ℕ, ◌+◌, ◌-◌, ◌≤◌, ◌<◌}
+use Prim.Native.Nat.{ℕ, ◌+◌, ◌<◌}
 use native.Mathlib.Numerals.{add-one}
 use native.Mathlib.Omega.{arith}
 use lib.IntN.{ℤ, pos}
@@ -10,7 +10,7 @@ use lib.ListN.{length, set}
 use lib.Seq.{get_or-set_same, get_or-set_other}
 use Rattle.integers.specs.Words.{word}
 use Rattle.integers.proofs.Below.{last_or}
-use Rattle.outline.specs.Places.{shapes_most, first_at}
+use Rattle.outline.specs.Places.{first_at}
 use Rattle.outline.proofs.chain.unlink.Goals as goal
 
 -- one shape more
@@ -38,11 +38,10 @@ pub loop-s-smaller : goal.loop-s-smaller
 loop-s-smaller c = omega arith
 
 pub loop-s-preserved : goal.loop-s-preserved
-loop-s-preserved c =
-    (
-      omega arith,
-      more c.loop-s.outline (omega arith) c.put.ensures c.loop-s.invariant.1,
-    )
+loop-s-preserved c = (
+  omega arith,
+  more c.loop-s.outline (omega arith) c.put.ensures c.loop-s.invariant.1,
+)
 
 pub returns : goal.returns
 returns c = λ s k. c.loop-s.invariant.1 s (omega (arith, c.loop-s-test.false))

@@ -1,15 +1,8 @@
 -- `outline::chain::unlink` meets its contract: the shapes below s begin at n. Assumes nothing.
-use mathlib.Core.Path.{◌≡◌, ap, ◌∙◌, subst}
-use mathlib.Core.Logic.{⊎_elim}
-use mathlib.Core.List.{List}
-use Prim.Native.Nat.{ℕ, ◌+◌, ◌-◌, ◌≤◌, ◌<◌}
-use native.Mathlib.Numerals.{add-one}
-use native.Mathlib.Omega.{arith}
-use lib.IntN.{ℤ, pos}
-use lib.ListN.{length, set}
-use lib.Seq.{get_or-set_same, get_or-set_other}
+use mathlib.Core.Path.{◌≡◌}
+use Prim.Native.Nat.{ℕ, ◌-◌, ◌≤◌, ◌<◌}
+use lib.IntN.{pos}
 use Rattle.integers.specs.Words.{word}
-use Rattle.integers.proofs.Below.{last_or}
 use Rattle.outline.specs.Places.{shapes_most, first_at}
 use Rattle.outline.proofs.chain.unlink.Given as goal
 

@@ -1,7 +1,7 @@
 -- `outline::clearance::is_kept` meets its contract: so far each dimension passed has clearance enough. Assumes nothing.
 use mathlib.Core.Path.{refl, sym, subst}
 use mathlib.Core.Logic.{⊎_elim}
-use Prim.Native.Nat.{ℕ, ◌-◌, ◌≤◌, ◌<◌}
+use Prim.Native.Nat.{ℕ, ◌<◌}
 use native.Mathlib.Numerals.{add-one}
 use native.Mathlib.Omega.{arith}
 use Rattle.integers.proofs.Booleans.{clash, not-false}
@@ -37,14 +37,13 @@ pub loop-d-smaller : goal.loop-d-smaller
 loop-d-smaller c = omega (arith, is-dim c.before.before)
 
 pub loop-d-preserved : goal.loop-d-preserved
-loop-d-preserved c =
-    (
-      omega (arith, is-dim c.before.before),
-      λ e h. ⊎_elim
-          (λ q. subst (KeepsIn _ _ _) (sym q) (c.is_kept_in.ensures (not-false c.if-not-is_kept_in.false-raw)))
-          (λ k. c.loop-d.invariant.1 e k)
-          (last_or (subst (λ (n : ℕ). e < n) (add-one c.loop-d.d) h)),
-    )
+loop-d-preserved c = (
+  omega (arith, is-dim c.before.before),
+  λ e h. ⊎_elim
+      (λ q. subst (KeepsIn _ _ _) (sym q) (c.is_kept_in.ensures (not-false c.if-not-is_kept_in.false-raw)))
+      (λ k. c.loop-d.invariant.1 e k)
+      (last_or (subst (λ (n : ℕ). e < n) (add-one c.loop-d.d) h)),
+)
 
 pub returns : goal.returns
 returns c = λ t d h.

@@ -1,12 +1,5 @@
 -- `outline::clearance::is_kept` meets its contract: so far each dimension passed has clearance enough. Assumes nothing.
-use mathlib.Core.Path.{refl, sym, subst}
-use mathlib.Core.Logic.{⊎_elim}
 use Prim.Native.Nat.{ℕ, ◌-◌, ◌≤◌, ◌<◌}
-use native.Mathlib.Numerals.{add-one}
-use native.Mathlib.Omega.{arith}
-use Rattle.integers.proofs.Booleans.{clash, not-false}
-use Rattle.integers.proofs.Below.{last_or}
-use Rattle.sheet.specs.Layout.{dims}
 use Rattle.outline.specs.Clearance.{KeepsIn}
 use Rattle.outline.proofs.clearance.is_kept.Given as goal
 

@@ -1,6 +1,6 @@
 -- `outline::rules::counted` meets its contract: so far the set is that of the rules passed. Assumes nothing.
 use mathlib.Core.Path.{◌≡◌, subst}
-use Prim.Native.Nat.{ℕ, ◌-◌, ◌≤◌}
+use Prim.Native.Nat.{ℕ}
 use native.Mathlib.Omega.{arith}
 use Rattle.sheet.specs.Layout.{rules}
 use Rattle.outline.specs.Rules.{CountedTo}

@@ -1,10 +1,6 @@
 -- `outline::rules::counted` meets its contract: so far the set is that of the rules passed. Assumes nothing.
-use mathlib.Core.Path.{◌≡◌, subst}
-use Prim.Native.Nat.{ℕ, ◌-◌, ◌≤◌}
-use native.Mathlib.Omega.{arith}
-use Rattle.sheet.specs.Layout.{rules}
+use Prim.Native.Nat.{◌-◌, ◌≤◌}
 use Rattle.outline.specs.Rules.{CountedTo}
-use Rattle.outline.proofs.Counting.{counted_none}
 use Rattle.outline.proofs.rules.counted.Given as goal
 
 abbrev pub invariant-loop-r : goal.invariant-loop-r

@@ -2,7 +2,6 @@
 use mathlib.Core.Path.{◌≡◌, refl, sym, ap, ◌∙◌, subst}
 use Prim.Native.Nat.{ℕ}
 use native.Mathlib.Omega.{arith}
-use borrow.Author.Rules.{rules}
 use Rattle.integers.specs.Integer.{nat}
 use Rattle.integers.specs.Bits.{bit_at}
 use Rattle.integers.proofs.Booleans.{clash, not-false}

@@ -1,6 +1,5 @@
 -- `outline::rules::dim_set` meets its contract: the word is a count and is cast whole. Assumes nothing.
 use mathlib.Core.Path.{sym, ap, ◌∙◌, subst}
-use borrow.Author.Rules.{rules}
 use Rattle.integers.specs.Integer.{nat}
 use Rattle.integers.proofs.Machine.{cast_ok}
 use Rattle.sheet.specs.Accepted.{Count}

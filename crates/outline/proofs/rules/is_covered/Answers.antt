@@ -1,6 +1,5 @@
 -- `outline::rules::is_covered` meets its contract: the first rule that covers is the answer. Assumes nothing.
 use mathlib.Core.Path.{refl}
-use Prim.Native.Nat.{◌-◌, ◌≤◌}
 use native.Mathlib.Omega.{arith}
 use Rattle.integers.proofs.Booleans.{clash}
 use Rattle.outline.proofs.rules.is_covered.Goals as goal

@@ -1,6 +1,5 @@
 -- `outline::solid::around` meets its contract: the lesser start and the larger end. Assumes nothing.
 use mathlib.Core.Path.{ap₂, ◌∙◌}
-use borrow.Author.Rules.{rules}
 use Rattle.points.specs.Area.{min_z, max_z}
 use Rattle.points.proofs.Sums.{bits_back}
 use Rattle.outline.proofs.solid.around.Goals as goal

@@ -1,14 +1,13 @@
 -- `outline::solid::put_box` meets its contract: in the dimensions passed its extents are written. Assumes nothing.
 use mathlib.Core.Path.{◌≡◌, sym, ap, ap₂, ◌∙◌, subst}
 use mathlib.Core.List.{List}
-use Prim.Native.Nat.{ℕ, ◌+◌, ◌-◌, ◌≤◌, ◌<◌}
+use Prim.Native.Nat.{ℕ, ◌+◌, ◌<◌}
 use native.Mathlib.Omega.{arith}
 use lib.IntN.{ℤ, ◌+ℤ◌}
 use Rattle.integers.specs.Integer.{Within}
 use Rattle.integers.proofs.Machine.{bnd, ◌+ʷ◌, sum_fits, exact, within_by}
 use Rattle.sheet.specs.Layout.{dims, offset, size}
 use Rattle.points.specs.Area.{coordinates}
-use Rattle.outline.specs.declared.solid.Extent.{Extent}
 use Rattle.outline.specs.Places.{solid_at}
 use Rattle.outline.proofs.Hulls.{Written, written_none, written-more}
 use Rattle.outline.proofs.solid.put_box.Invariants.{Own}

@@ -1,14 +1,7 @@
 -- `outline::solid::put_boxes` meets its contract: the boxes before b are put. Assumes nothing.
-use mathlib.Core.Path.{subst}
-use mathlib.Core.Logic.{⊎_elim}
 use Prim.Native.Nat.{ℕ, ◌-◌, ◌≤◌, ◌<◌}
-use native.Mathlib.Numerals.{add-one}
-use native.Mathlib.Omega.{arith}
-use Rattle.integers.proofs.Below.{last_or}
 use Rattle.outline.specs.Places.{solid_at, SameTo}
 use Rattle.outline.specs.Solids.{IsBox}
-use Rattle.outline.proofs.Runs.{same_none, same_then}
-use Rattle.outline.proofs.Solids.{box-kept}
 use Rattle.outline.proofs.solid.put_boxes.Given as goal
 
 abbrev pub invariant-loop-b : goal.invariant-loop-b

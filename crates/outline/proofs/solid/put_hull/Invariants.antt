@@ -1,17 +1,11 @@
 -- `outline::solid::put_hull` meets its contract: in the dimensions passed the extents of the shape's boxes are written. Assumes nothing.
-use mathlib.Core.Path.{sym, subst}
 use mathlib.Core.List.{List}
-use Prim.Native.Nat.{ℕ, ◌+◌, ◌-◌, ◌≤◌, ◌<◌}
-use native.Mathlib.Omega.{arith}
+use Prim.Native.Nat.{ℕ, ◌-◌, ◌≤◌}
 use lib.IntN.{ℤ}
-use Rattle.sheet.specs.Layout.{dims, boxes}
-use Rattle.points.specs.Area.{coordinates}
+use Rattle.sheet.specs.Layout.{boxes}
 use Rattle.outline.specs.declared.solid.Extent.{Extent}
-use Rattle.outline.specs.Places.{shapes_most, solid_at}
 use Rattle.outline.specs.Solids.{Spans}
-use Rattle.outline.proofs.Chains.{chained-kept}
-use Rattle.outline.proofs.Solids.{shape-few, boxes-kept}
-use Rattle.outline.proofs.Hulls.{Written, written_none, written-more, hull-of-spans}
+use Rattle.outline.proofs.Hulls.{Written}
 use Rattle.outline.proofs.solid.put_hull.Given as goal
 
 abbrev pub Spanned : List ℤ → ℕ → ℕ → Extent → Type 0

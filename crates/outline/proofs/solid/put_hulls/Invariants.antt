@@ -1,20 +1,10 @@
 -- `outline::solid::put_hulls` meets its contract: the hulls of the shapes below s that have a box are put. Assumes nothing.
-use mathlib.Core.Path.{sym, subst}
-use mathlib.Core.Logic.{⊎_elim}
 use mathlib.Core.List.{List}
-use Prim.Native.Nat.{ℕ, ◌+◌, ◌-◌, ◌≤◌, ◌<◌}
-use native.Mathlib.Numerals.{add-one}
-use native.Mathlib.Omega.{arith}
+use Prim.Native.Nat.{ℕ, ◌-◌, ◌≤◌, ◌<◌}
 use lib.IntN.{ℤ}
-use Rattle.integers.proofs.Booleans.{clash}
-use Rattle.integers.proofs.Below.{last_or}
-use Rattle.sheet.specs.Layout.{boxes}
 use Rattle.sheet.specs.Accepted.{Boxed}
 use Rattle.outline.specs.Places.{shapes_most, hull_of, solid_at, SameTo}
 use Rattle.outline.specs.Solids.{Hull}
-use Rattle.outline.proofs.Runs.{same_none, same_then}
-use Rattle.outline.proofs.Chains.{chained-kept}
-use Rattle.outline.proofs.Solids.{shape-few, boxes-kept, hull-kept}
 use Rattle.outline.proofs.solid.put_hulls.Given as goal
 
 -- from the run o to o', in which the hulls of the shapes below s are put

@@ -1,16 +1,9 @@
 -- `outline::solid::span` meets its contract: the extent is that of the shape's boxes before b, the next one. Assumes nothing.
-use mathlib.Core.Path.{◌≡◌, refl, ap, ◌∙◌, subst}
+use mathlib.Core.Path.{◌≡◌}
 use mathlib.Core.Bool.{true}
-use mathlib.Core.List.{List}
-use Prim.Native.Nat.{ℕ, ◌-◌, ◌≤◌, ◌<◌}
-use native.Mathlib.Omega.{arith}
-use lib.IntN.{ℤ}
-use Rattle.integers.proofs.Machine.{num, diff-fits}
+use Prim.Native.Nat.{◌-◌, ◌≤◌, ◌<◌}
 use Rattle.sheet.specs.Layout.{boxes, is_of}
-use Rattle.points.specs.Area.{min_z, max_z}
 use Rattle.outline.specs.Solids.{Spans}
-use Rattle.outline.proofs.Solids.{shape-few}
-use Rattle.outline.proofs.Hulls.{spans-none, spans-more}
 use Rattle.outline.proofs.solid.span.Given as goal
 
 abbrev pub invariant-loop-b : goal.invariant-loop-b

@@ -1,13 +1,9 @@
 -- `judge::is_forbidden` meets its contract: so far no rule passed forbids the point. Assumes nothing.
-use mathlib.Core.Path.{◌≡◌, sym, ◌∙◌}
+use mathlib.Core.Path.{◌≡◌}
 use mathlib.Core.Bool.{false}
 use Prim.Native.Nat.{◌≤◌, ◌-◌}
-use native.Mathlib.Omega.{arith}
 use Rattle.integers.specs.Below.{any_below}
-use Rattle.integers.proofs.Below.{any-zero, any-true}
-use Rattle.sheet.specs.Layout.{rules}
-use Rattle.forbid.proofs.Regions.{none_more}
-use Rattle.placement.specs.Before.{rule_forbids_before, forbidden_before}
+use Rattle.placement.specs.Before.{rule_forbids_before}
 use Rattle.placement.proofs.judge.is_forbidden.Given as goal
 
 abbrev pub invariant-loop-r : goal.invariant-loop-r

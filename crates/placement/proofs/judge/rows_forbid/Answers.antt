@@ -1,10 +1,9 @@
 -- `judge::rows_forbid` meets its contract: so far no row passed forbids the point. Assumes nothing.
 use mathlib.Core.Path.{◌≡◌, sym, ap, ◌∙◌}
-use mathlib.Core.Bool.{Bool, false}
-use Prim.Native.Nat.{ℕ, ◌+◌, ◌≤◌, ◌-◌}
+use mathlib.Core.Bool.{Bool}
+use Prim.Native.Nat.{ℕ, ◌+◌, ◌-◌}
 use native.Mathlib.Numerals.{add-one}
 use native.Mathlib.Omega.{arith}
-use Rattle.integers.specs.Below.{any_up_to}
 use Rattle.integers.proofs.Below.{up_next, any-zero, upto-some}
 use Rattle.forbid.proofs.Regions.{none_more}
 use Rattle.placement.specs.Before.{named_forbids, before_forbids}

@@ -1,14 +1,12 @@
 -- `Area::common` meets its contract: so far the area is cut to the other's bounds in each dimension passed. Assumes nothing.
 use mathlib.Core.Path.{◌≡◌, ap₂}
-use Prim.Native.Nat.{◌≤◌, ◌<◌, ◌-◌}
+use Prim.Native.Nat.{◌<◌}
 use native.Mathlib.Omega.{arith}
 use lib.IntN.{ℤ}
-use borrow.Author.Rules.{rules}
 use Rattle.integers.specs.Integer.{within}
-use Rattle.integers.specs.Below.{all_below}
 use Rattle.integers.specs.Words.{word}
 use Rattle.integers.proofs.Machine.{within_by}
-use Rattle.points.specs.Area.{coordinates, area_by, in_at, in_area, Cuts}
+use Rattle.points.specs.Area.{coordinates, in_at, in_area}
 use Rattle.points.proofs.Sums.{near-back}
 use Rattle.points.proofs.Cut.{cuts-same, cuts-zero, cuts-more}
 use Rattle.points.proofs.Area.common.Lts as lts

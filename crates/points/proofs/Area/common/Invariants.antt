@@ -1,16 +1,8 @@
 -- `Area::common` meets its contract: so far the area is cut to the other's bounds in each dimension passed. Assumes nothing.
-use mathlib.Core.Path.{◌≡◌, ap₂}
-use Prim.Native.Nat.{◌≤◌, ◌<◌, ◌-◌}
-use native.Mathlib.Omega.{arith}
-use lib.IntN.{ℤ}
-use borrow.Author.Rules.{rules}
-use Rattle.integers.specs.Integer.{within}
+use Prim.Native.Nat.{◌≤◌, ◌-◌}
 use Rattle.integers.specs.Below.{all_below}
 use Rattle.integers.specs.Words.{word}
-use Rattle.integers.proofs.Machine.{within_by}
-use Rattle.points.specs.Area.{coordinates, area_by, in_at, in_area, Cuts}
-use Rattle.points.proofs.Sums.{near-back}
-use Rattle.points.proofs.Cut.{cuts-same, cuts-zero, cuts-more}
+use Rattle.points.specs.Area.{area_by, in_at, Cuts}
 use Rattle.points.proofs.Area.common.Given as goal
 
 abbrev pub invariant-loop-d : goal.invariant-loop-d

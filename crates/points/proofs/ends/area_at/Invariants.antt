@@ -1,12 +1,9 @@
 -- `points::ends::area_at` meets its contract: so far the words of the dimensions passed are read. Assumes nothing.
-use mathlib.Core.Path.{◌≡◌, refl, sym}
+use mathlib.Core.Path.{◌≡◌}
 use Prim.Native.Nat.{ℕ, ◌+◌, ◌-◌, ◌≤◌, ◌<◌}
-use native.Mathlib.Omega.{arith}
-use lib.ListN.{length, length-set}
+use lib.ListN.{length}
 use Rattle.integers.specs.Words.{word}
-use Rattle.points.specs.Area.{coordinates, area_by}
-use Rattle.points.proofs.Sums.{bits_back}
-use Rattle.points.proofs.Runs.{read_more, area-is}
+use Rattle.points.specs.Area.{coordinates}
 use Rattle.points.proofs.ends.area_at.Given as goal
 
 abbrev pub invariant-loop-d : goal.invariant-loop-d

@@ -3,7 +3,6 @@ use mathlib.Core.Path.{refl, sym, ap, ◌∙◌}
 use Rattle.points.specs.declared.Area.{Area}
 use Rattle.points.specs.Area.{in_area}
 use Rattle.points.proofs.Runs.{area-parts}
-use borrow.Author.Rules.{rules}
 use Rattle.points.proofs.ends.area_holds.Goals as goal
 
 pub returns : goal.returns

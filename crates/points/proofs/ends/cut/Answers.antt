@@ -10,7 +10,6 @@ use Rattle.integers.specs.Words.{word}
 use Rattle.points.specs.Area.{coordinates, max_z, min_z}
 use Rattle.points.proofs.Sums.{bits_back}
 use Rattle.points.proofs.Runs.{ends-cut}
-use borrow.Author.Rules.{rules}
 use Rattle.points.proofs.ends.cut.Goals as goal
 
 pub slice_copy_out-lesser : goal.slice_copy_out-lesser

@@ -3,7 +3,6 @@ use Prim.Native.Nat.{◌+◌}
 use Rattle.integers.specs.Words.{word}
 use Rattle.points.specs.Area.{coordinates}
 use Rattle.points.proofs.Sums.{bits_back}
-use borrow.Author.Rules.{rules}
 use Rattle.points.proofs.ends.end_of.Goals as goal
 
 pub returns-then-flip : goal.returns-then-flip

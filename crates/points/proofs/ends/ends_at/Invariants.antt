@@ -1,17 +1,9 @@
 -- `points::ends::ends_at` meets its contract: so far the high ends of the dimensions passed are written. Assumes nothing.
-use mathlib.Core.Path.{◌≡◌, refl, ◌∙◌}
-use mathlib.Core.Bool.{true, false}
+use mathlib.Core.Path.{◌≡◌}
 use Prim.Native.Nat.{ℕ, ◌+◌, ◌-◌, ◌≤◌, ◌<◌}
-use native.Mathlib.Omega.{arith}
-use lib.IntN.{pos}
-use lib.ListN.{length, length-set, get_or-replicate}
-use lib.Seq.{get_or-set_other}
-use mir.Facts.{to_z-of_z}
-use mir.Syntax.{w64}
-use mir.Val.{to_z}
+use lib.ListN.{length}
 use Rattle.integers.specs.Words.{word}
 use Rattle.points.specs.Area.{coordinates, area_words}
-use Rattle.points.proofs.Runs.{written}
 use Rattle.points.proofs.ends.ends_at.Given as goal
 
 abbrev pub invariant-loop-d : goal.invariant-loop-d

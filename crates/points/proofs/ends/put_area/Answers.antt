@@ -1,14 +1,12 @@
 -- `points::ends::put_area` meets its contract: so far the bounds of the dimensions passed are written. Assumes nothing.
-use mathlib.Core.Path.{◌≡◌}
 use mathlib.Core.Logic.{inl, inr}
-use Prim.Native.Nat.{ℕ, ◌+◌, ◌-◌, ◌≤◌, ◌<◌}
+use Prim.Native.Nat.{◌+◌, ◌<◌}
 use native.Mathlib.Omega.{arith}
 use lib.ListN.{length, set, length-set}
 use borrow.Author.Rules.{rules}
 use Rattle.integers.specs.Words.{word}
-use Rattle.points.specs.Area.{coordinates, area_words}
+use Rattle.points.specs.Area.{coordinates}
 use Rattle.points.proofs.Sums.{bits_back}
-use Rattle.points.specs.Ends.{SameBut}
 use Rattle.points.proofs.Runs.{same_none, same_set, words_more, words-other, area-is}
 use Rattle.points.proofs.ends.put_area.Goals as goal
 

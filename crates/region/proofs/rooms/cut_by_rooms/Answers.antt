@@ -1,12 +1,8 @@
 -- `rooms::cut_by_rooms` meets its contract: so far the area is cut by each rule passed. Assumes nothing.
 use mathlib.Core.Path.{◌≡◌, refl, ◌∙◌}
-use Prim.Native.Nat.{◌≤◌, ◌-◌}
 use native.Mathlib.Omega.{arith}
-use lib.ListN.{length}
-use Rattle.integers.specs.Below.{all_below}
-use Rattle.sheet.specs.Layout.{axes, rules}
+use Rattle.sheet.specs.Layout.{rules}
 use Rattle.sheet.specs.Allowed.{rooms_hold}
-use Rattle.points.specs.Area.{Cuts, area_of}
 use Rattle.region.specs.Rooms.{shape_contained, room_holds}
 use Rattle.points.proofs.Cut.{cuts-zero, cuts-more}
 use Rattle.region.proofs.rooms.cut_by_rooms.Goals as goal

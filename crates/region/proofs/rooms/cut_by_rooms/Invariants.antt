@@ -1,14 +1,11 @@
 -- `rooms::cut_by_rooms` meets its contract: so far the area is cut by each rule passed. Assumes nothing.
-use mathlib.Core.Path.{◌≡◌, refl, ◌∙◌}
+use mathlib.Core.Path.{◌≡◌}
 use Prim.Native.Nat.{◌≤◌, ◌-◌}
-use native.Mathlib.Omega.{arith}
 use lib.ListN.{length}
 use Rattle.integers.specs.Below.{all_below}
-use Rattle.sheet.specs.Layout.{axes, rules}
-use Rattle.sheet.specs.Allowed.{rooms_hold}
+use Rattle.sheet.specs.Layout.{axes}
 use Rattle.points.specs.Area.{Cuts, area_of}
-use Rattle.region.specs.Rooms.{shape_contained, room_holds}
-use Rattle.points.proofs.Cut.{cuts-zero, cuts-more}
+use Rattle.region.specs.Rooms.{room_holds}
 use Rattle.region.proofs.rooms.cut_by_rooms.Given as goal
 
 abbrev pub invariant-loop-r : goal.invariant-loop-r

@@ -2,7 +2,6 @@
 use mathlib.Core.Path.{sym, ◌∙◌}
 use Rattle.region.specs.Rooms.{room_holds}
 use Rattle.points.proofs.Cut.{cuts-in, cuts-out}
-use borrow.Author.Rules.{rules}
 use Rattle.region.proofs.rooms.cut_by_rule.Goals as goal
 
 pub returns-then-is_room_of : goal.returns-then-is_room_of

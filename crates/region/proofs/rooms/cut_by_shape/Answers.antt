@@ -1,17 +1,13 @@
 -- `rooms::cut_by_shape` meets its contract: so far the area is cut in each dimension passed that the rule names. Assumes nothing.
 use mathlib.Core.Path.{◌≡◌, refl, sym, ◌∙◌, subst}
-use mathlib.Core.Logic.{⊎_elim}
-use mathlib.Core.Bool.{Bool}
 use mathlib.Core.List.{List}
-use Prim.Native.Nat.{ℕ, ◌+◌, ◌-◌, ◌≤◌, ◌<◌}
+use Prim.Native.Nat.{◌+◌, ◌<◌}
 use native.Mathlib.Omega.{arith}
 use lib.IntN.{ℤ}
-use lib.ListN.{length}
-use Rattle.integers.specs.Below.{◌⇒◌, all_below}
-use Rattle.sheet.specs.Layout.{dims, axes, names_dim}
+use Rattle.sheet.specs.Layout.{dims, axes}
 use Rattle.points.specs.Area.{Cuts, area_of}
 use Rattle.points.proofs.Cut.{cuts-zero, cuts-more, cuts-same, cuts-in, cuts-out}
-use Rattle.region.specs.Rooms.{side_contained, shape_contained}
+use Rattle.region.specs.Rooms.{shape_contained}
 use Rattle.region.proofs.Contained.{hull-sides}
 use Rattle.region.proofs.rooms.cut_by_shape.Invariants.{CutTo}
 use Rattle.region.proofs.rooms.cut_by_shape.Lts as lts
@@ -77,9 +73,9 @@ loop-d-preserved c =
       omega (arith, l.invariant.0, c.if-d-k.false),
       elim c.if-names_dim.branch [
         | then-names_dim b ↦ subst P (sym b.ends-is)
-        (b.cut_by_side.auto.ends ∙ l.invariant.1.0, cuts-more _ l.invariant.1.1 (cuts-in (sym c.names_dim.ensures ∙ b.if-names_dim.true) b.cut_by_side.ensures))
+            (b.cut_by_side.auto.ends ∙ l.invariant.1.0, cuts-more _ l.invariant.1.1 (cuts-in (sym c.names_dim.ensures ∙ b.if-names_dim.true) b.cut_by_side.ensures))
         | else-names_dim b ↦ subst P (sym b.ends-is)
-        (l.invariant.1.0, cuts-more _ l.invariant.1.1 (cuts-out _ (sym c.names_dim.ensures ∙ b.if-names_dim.false)))
+            (l.invariant.1.0, cuts-more _ l.invariant.1.1 (cuts-out _ (sym c.names_dim.ensures ∙ b.if-names_dim.false)))
       ],
     )
 

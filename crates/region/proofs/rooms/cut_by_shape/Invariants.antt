@@ -1,18 +1,14 @@
 -- `rooms::cut_by_shape` meets its contract: so far the area is cut in each dimension passed that the rule names. Assumes nothing.
-use mathlib.Core.Path.{◌≡◌, refl, sym, ◌∙◌, subst}
-use mathlib.Core.Logic.{⊎_elim}
+use mathlib.Core.Path.{◌≡◌}
 use mathlib.Core.Bool.{Bool}
 use mathlib.Core.List.{List}
-use Prim.Native.Nat.{ℕ, ◌+◌, ◌-◌, ◌≤◌, ◌<◌}
-use native.Mathlib.Omega.{arith}
+use Prim.Native.Nat.{ℕ, ◌-◌, ◌≤◌}
 use lib.IntN.{ℤ}
 use lib.ListN.{length}
 use Rattle.integers.specs.Below.{◌⇒◌, all_below}
-use Rattle.sheet.specs.Layout.{dims, axes, names_dim}
+use Rattle.sheet.specs.Layout.{axes, names_dim}
 use Rattle.points.specs.Area.{Cuts, area_of}
-use Rattle.points.proofs.Cut.{cuts-zero, cuts-more, cuts-same, cuts-in, cuts-out}
-use Rattle.region.specs.Rooms.{side_contained, shape_contained}
-use Rattle.region.proofs.Contained.{hull-sides}
+use Rattle.region.specs.Rooms.{side_contained}
 use Rattle.region.proofs.rooms.cut_by_shape.Given as goal
 
 -- from the run u to w, cut by shape s in the dimensions below n that rule r names

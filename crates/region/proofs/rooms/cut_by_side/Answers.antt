@@ -15,7 +15,6 @@ use Rattle.outline.specs.Places.{hull_of, start_of, end_of}
 use Rattle.outline.specs.Solids.{far, Hull}
 use Rattle.outline.proofs.Solids.{shape-few, hull-near}
 use Rattle.region.specs.Rooms.{side_contained}
-use borrow.Author.Rules.{rules}
 use Rattle.region.proofs.rooms.cut_by_side.Lts as lts
 use Rattle.region.proofs.rooms.cut_by_side.Reads as reads
 use Rattle.region.proofs.rooms.cut_by_side.Tie as tie

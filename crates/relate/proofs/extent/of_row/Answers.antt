@@ -1,6 +1,6 @@
 -- `relate::extent::of_row` meets its contract: the extent is that of the row's boxes before b. Assumes nothing.
 use mathlib.Core.Path.{◌≡◌, ap, ◌∙◌}
-use Prim.Native.Nat.{◌-◌, ◌≤◌, ◌<◌}
+use Prim.Native.Nat.{◌<◌}
 use native.Mathlib.Omega.{arith}
 use Rattle.integers.proofs.Machine.{num, diff-fits}
 use Rattle.sheet.specs.Layout.{boxes}

@@ -1,10 +1,8 @@
 -- `relate::extent::of_row` meets its contract: the extent is that of the row's boxes before b. Assumes nothing.
-use mathlib.Core.Path.{◌≡◌, ap, ◌∙◌}
-use Prim.Native.Nat.{◌-◌, ◌≤◌, ◌<◌}
-use native.Mathlib.Omega.{arith}
-use Rattle.integers.proofs.Machine.{num, diff-fits}
+use mathlib.Core.Path.{◌≡◌}
+use Prim.Native.Nat.{◌-◌, ◌≤◌}
 use Rattle.sheet.specs.Layout.{boxes}
-use Rattle.relate.proofs.Extents.{start_to, end_to, start_none, end_none, start-more, end_more, start-all, end-all}
+use Rattle.relate.proofs.Extents.{start_to, end_to}
 use Rattle.relate.proofs.extent.of_row.Given as goal
 
 abbrev pub invariant-loop-b : goal.invariant-loop-b

@@ -1,13 +1,10 @@
 -- `splits::pick::first_open` meets its contract: the rows passed are fixed. Assumes nothing.
-use mathlib.Core.Path.{◌≡◌}
 use mathlib.Core.Logic.{⊎_elim}
-use mathlib.Core.Bool.{true}
-use Prim.Native.Nat.{ℕ, ◌+◌, ◌-◌, ◌≤◌, ◌<◌}
+use Prim.Native.Nat.{ℕ, ◌≤◌}
 use native.Mathlib.Numerals.{add-one}
 use native.Mathlib.Omega.{arith}
 use Rattle.integers.proofs.Below.{last_or}
 use Rattle.sheet.specs.Layout.{axes}
-use Rattle.sheet.specs.Placement.{row_fixed}
 use Rattle.sheet.specs.Cuts.{HasNumber}
 use Rattle.words.proofs.Reading.{read_back}
 use Rattle.splits.specs.Picks.{OpenColumn}
@@ -31,12 +28,11 @@ pub loop-row-init : goal.loop-row-init
 loop-row-init c = (omega arith, omega arith, λ i h l. absurd (omega arith))
 
 pub row_place-requires : goal.row_place-requires
-row_place-requires c =
-    (
-      c.requires.0,
-      c.requires.1.whole,
-      record { from = c.loop-row.invariant.0; upto = omega (arith, c.loop-row-test.true, c.rows_of-n.ensures) },
-    )
+row_place-requires c = (
+  c.requires.0,
+  c.requires.1.whole,
+  record { from = c.loop-row.invariant.0; upto = omega (arith, c.loop-row-test.true, c.rows_of-n.ensures) },
+)
 
 pub open_column-column-requires : goal.open_column-column-requires
 open_column-column-requires c =

@@ -1,18 +1,8 @@
 -- `splits::pick::first_open` meets its contract: the rows passed are fixed. Assumes nothing.
 use mathlib.Core.Path.{◌≡◌}
-use mathlib.Core.Logic.{⊎_elim}
 use mathlib.Core.Bool.{true}
 use Prim.Native.Nat.{ℕ, ◌+◌, ◌-◌, ◌≤◌, ◌<◌}
-use native.Mathlib.Numerals.{add-one}
-use native.Mathlib.Omega.{arith}
-use Rattle.integers.proofs.Below.{last_or}
-use Rattle.sheet.specs.Layout.{axes}
 use Rattle.sheet.specs.Placement.{row_fixed}
-use Rattle.sheet.specs.Cuts.{HasNumber}
-use Rattle.words.proofs.Reading.{read_back}
-use Rattle.splits.specs.Picks.{OpenColumn}
-use Rattle.splits.proofs.Picks.{all-fixed}
-use Rattle.splits.proofs.Values.{split-least}
 use Rattle.splits.proofs.pick.first_open.Given as goal
 
 abbrev pub invariant-loop-row : goal.invariant-loop-row

@@ -2,7 +2,6 @@
 use Prim.Native.Nat.{◌*◌, ◌≤◌}
 use native.Mathlib.Nat.{mul-le-mul}
 use native.Mathlib.Omega.{arith}
-use borrow.Author.Rules.{rules}
 use Rattle.splits.proofs.Picks.{gains-kept, gains-new}
 use Rattle.splits.proofs.pick.gain_in_column.Goals as goal
 

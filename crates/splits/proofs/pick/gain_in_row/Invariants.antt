@@ -1,8 +1,6 @@
 -- `splits::pick::gain_in_row` meets its contract: the columns one after another. Assumes nothing.
 use Prim.Native.Nat.{◌+◌, ◌-◌, ◌≤◌}
-use native.Mathlib.Omega.{arith}
 use Rattle.splits.specs.Picks.{Gains}
-use Rattle.splits.proofs.Picks.{gains-row}
 use Rattle.splits.proofs.pick.gain_in_row.Given as goal
 
 abbrev pub invariant-loop-column : goal.invariant-loop-column

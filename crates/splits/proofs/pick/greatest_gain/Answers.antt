@@ -1,9 +1,7 @@
 -- `splits::pick::greatest_gain` meets its contract: the rows one after another. Assumes nothing.
 use mathlib.Core.Path.{◌≡◌, refl, sym}
-use Prim.Native.Nat.{◌+◌, ◌-◌, ◌≤◌}
-use borrow.Author.Rules.{rules}
+use Prim.Native.Nat.{◌+◌}
 use native.Mathlib.Omega.{arith}
-use Rattle.splits.specs.Picks.{Gains}
 use Rattle.splits.proofs.Picks.{gains-start}
 use Rattle.splits.proofs.pick.greatest_gain.Goals as goal
 
@@ -23,20 +21,18 @@ pub bounds-failures-row : goal.bounds-failures-row
 bounds-failures-row c = omega (arith, c.loop-row-test.true, c.loop-row.invariant.0, c.rows_of-n.ensures, c.requires.2)
 
 pub row_place-requires : goal.row_place-requires
-row_place-requires c =
-    (
-      c.requires.0,
-      c.requires.1.whole,
-      record { from = c.loop-row.invariant.0; upto = omega (arith, c.loop-row-test.true, c.rows_of-n.ensures) },
-    )
+row_place-requires c = (
+  c.requires.0,
+  c.requires.1.whole,
+  record { from = c.loop-row.invariant.0; upto = omega (arith, c.loop-row-test.true, c.rows_of-n.ensures) },
+)
 
 pub gain_in_row-best-requires : goal.gain_in_row-best-requires
-gain_in_row-best-requires c =
-    (
-      record { table = c.requires.1; row = c.row_place.ensures.0 },
-      c.weight_of-weight.ensures,
-      rw c.row_place.ensures.1 c.loop-row.invariant.2,
-    )
+gain_in_row-best-requires c = (
+  record { table = c.requires.1; row = c.row_place.ensures.0 },
+  c.weight_of-weight.ensures,
+  rw c.row_place.ensures.1 c.loop-row.invariant.2,
+)
 
 pub overflow_add-row : goal.overflow_add-row
 overflow_add-row c =

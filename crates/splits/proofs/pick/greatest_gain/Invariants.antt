@@ -1,10 +1,6 @@
 -- `splits::pick::greatest_gain` meets its contract: the rows one after another. Assumes nothing.
-use mathlib.Core.Path.{◌≡◌, refl, sym}
 use Prim.Native.Nat.{◌+◌, ◌-◌, ◌≤◌}
-use borrow.Author.Rules.{rules}
-use native.Mathlib.Omega.{arith}
 use Rattle.splits.specs.Picks.{Gains}
-use Rattle.splits.proofs.Picks.{gains-start}
 use Rattle.splits.proofs.pick.greatest_gain.Given as goal
 
 abbrev pub invariant-loop-row : goal.invariant-loop-row

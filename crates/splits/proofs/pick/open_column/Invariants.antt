@@ -1,10 +1,6 @@
 -- `splits::pick::open_column` meets its contract: the columns passed have one value each. Assumes nothing.
 use Prim.Native.Nat.{ℕ, ◌+◌, ◌-◌, ◌≤◌, ◌<◌}
-use native.Mathlib.Nat.{not-suc-le-zero}
-use native.Mathlib.Omega.{arith}
 use Rattle.sheet.specs.Cuts.{Single}
-use Rattle.sheet.proofs.Numbers.{single-fixed}
-use Rattle.splits.proofs.Picks.{single_more}
 use Rattle.splits.proofs.pick.open_column.Given as goal
 
 abbrev pub invariant-loop-c : goal.invariant-loop-c

@@ -1,7 +1,6 @@
 -- `splits::pick::pick` meets its contract: where nothing is gained the table is fixed. Assumes nothing.
 use Prim.Native.Nat.{◌<◌}
 use native.Mathlib.Omega.{arith}
-use borrow.Author.Rules.{rules}
 use mir.Facts.{to_z-of_z}
 use Rattle.integers.proofs.Machine.{fits_word}
 use Rattle.splits.proofs.Picks.{gains-fixed}

@@ -1,6 +1,5 @@
 -- `new` makes the start of a sweep.
 -- Assumes nothing.
-use borrow.Author.Rules.{rules}
 use Rattle.sweep.proofs.Sweep.new.Goals as goal
 
 pub returns : goal.returns

@@ -1,5 +1,5 @@
 -- `trial::brute::point` is safe and ends: d runs up to 4. Assumes nothing.
-use Rattle.std.proofs.Common.{◌-◌, ◌≤◌, rules}
+use Rattle.std.proofs.Common.{◌-◌, ◌≤◌}
 use Rattle.trial.proofs.brute.point.Given as goal
 
 abbrev pub invariant-loop-d : goal.invariant-loop-d

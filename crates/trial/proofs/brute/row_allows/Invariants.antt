@@ -1,5 +1,5 @@
 -- `trial::brute::row_allows` is safe and ends: s2 runs up to 32. Assumes nothing.
-use Rattle.std.proofs.Common.{◌-◌, ◌≤◌, rules}
+use Rattle.std.proofs.Common.{◌-◌, ◌≤◌}
 use Rattle.trial.proofs.brute.row_allows.Given as goal
 
 abbrev pub invariant-loop-s2 : goal.invariant-loop-s2

@@ -1,5 +1,5 @@
 -- `trial::brute::rows_allow` is safe and ends: j runs up to n. Assumes nothing.
-use Rattle.std.proofs.Common.{◌-◌, ◌≤◌, rules}
+use Rattle.std.proofs.Common.{◌-◌, ◌≤◌}
 use Rattle.trial.proofs.brute.rows_allow.Given as goal
 
 abbrev pub invariant-loop-j : goal.invariant-loop-j

@@ -1,5 +1,5 @@
 -- `trial::brute::rules_allow` is safe and ends: r runs up to n. Assumes nothing.
-use Rattle.std.proofs.Common.{◌-◌, ◌≤◌, rules}
+use Rattle.std.proofs.Common.{◌-◌, ◌≤◌}
 use Rattle.trial.proofs.brute.rules_allow.Given as goal
 
 abbrev pub invariant-loop-r : goal.invariant-loop-r

@@ -1,5 +1,5 @@
 -- `trial::brute::settle_rows` is safe and ends: turn runs up to 10000. Assumes nothing.
-use Rattle.std.proofs.Common.{◌≡◌, ◌-◌, ◌≤◌, length, rules}
+use Rattle.std.proofs.Common.{◌≡◌, ◌-◌, ◌≤◌, length}
 use Rattle.trial.proofs.brute.settle_rows.Given as goal
 
 abbrev pub invariant-loop-turn : goal.invariant-loop-turn

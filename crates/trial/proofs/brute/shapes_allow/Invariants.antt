@@ -1,5 +1,5 @@
 -- `trial::brute::shapes_allow` is safe and ends: b runs up to n. Assumes nothing.
-use Rattle.std.proofs.Common.{◌-◌, ◌≤◌, rules}
+use Rattle.std.proofs.Common.{◌-◌, ◌≤◌}
 use Rattle.trial.proofs.brute.shapes_allow.Given as goal
 
 abbrev pub invariant-loop-b : goal.invariant-loop-b

@@ -1,5 +1,5 @@
 -- `trial::brute::with_point` is safe and ends: d runs up to 4. Assumes nothing.
-use Rattle.std.proofs.Common.{◌-◌, ◌≤◌, rules}
+use Rattle.std.proofs.Common.{◌-◌, ◌≤◌}
 use Rattle.trial.proofs.brute.with_point.Given as goal
 
 abbrev pub invariant-loop-d : goal.invariant-loop-d

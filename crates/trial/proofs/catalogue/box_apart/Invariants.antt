@@ -1,5 +1,5 @@
 -- `trial::catalogue::box_apart` is safe and ends: c runs up to n. Assumes nothing.
-use Rattle.std.proofs.Common.{◌-◌, ◌≤◌, rules}
+use Rattle.std.proofs.Common.{◌-◌, ◌≤◌}
 use Rattle.trial.proofs.catalogue.box_apart.Given as goal
 
 abbrev pub invariant-loop-c : goal.invariant-loop-c

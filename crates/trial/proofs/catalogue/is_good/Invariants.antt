@@ -1,5 +1,5 @@
 -- `trial::catalogue::is_good` is safe and ends: r runs up to n. Assumes nothing.
-use Rattle.std.proofs.Common.{◌-◌, ◌≤◌, rules}
+use Rattle.std.proofs.Common.{◌-◌, ◌≤◌}
 use Rattle.trial.proofs.catalogue.is_good.Given as goal
 
 abbrev pub invariant-loop-r : goal.invariant-loop-r

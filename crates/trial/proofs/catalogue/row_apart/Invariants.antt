@@ -1,5 +1,5 @@
 -- `trial::catalogue::row_apart` is safe and ends: j runs up to i. Assumes nothing.
-use Rattle.std.proofs.Common.{◌-◌, ◌≤◌, rules}
+use Rattle.std.proofs.Common.{◌-◌, ◌≤◌}
 use Rattle.trial.proofs.catalogue.row_apart.Given as goal
 
 abbrev pub invariant-loop-j : goal.invariant-loop-j

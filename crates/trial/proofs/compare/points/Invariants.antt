@@ -1,5 +1,5 @@
 -- `trial::compare::points` is safe and ends: m runs up to n. Assumes nothing.
-use Rattle.std.proofs.Common.{◌-◌, ◌≤◌, rules}
+use Rattle.std.proofs.Common.{◌-◌, ◌≤◌}
 use Rattle.trial.proofs.compare.points.Given as goal
 
 abbrev pub invariant-loop-m : goal.invariant-loop-m

@@ -1,5 +1,5 @@
 -- `trial::compare::requests` is safe and ends: the counter runs up to 6. Assumes nothing.
-use Rattle.std.proofs.Common.{◌-◌, ◌≤◌, rules}
+use Rattle.std.proofs.Common.{◌-◌, ◌≤◌}
 use Rattle.trial.proofs.compare.requests.Given as goal
 
 abbrev pub invariant-loop : goal.invariant-loop

@@ -1,5 +1,5 @@
 -- `trial::compare::rows` is safe and ends: i runs up to n. Assumes nothing.
-use Rattle.std.proofs.Common.{◌-◌, ◌≤◌, rules}
+use Rattle.std.proofs.Common.{◌-◌, ◌≤◌}
 use Rattle.trial.proofs.compare.rows.Given as goal
 
 abbrev pub invariant-loop-i : goal.invariant-loop-i

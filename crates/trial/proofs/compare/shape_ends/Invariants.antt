@@ -1,5 +1,5 @@
 -- `trial::compare::shape_ends` is safe and ends: d runs up to k. Assumes nothing.
-use Rattle.std.proofs.Common.{◌-◌, ◌≤◌, rules}
+use Rattle.std.proofs.Common.{◌-◌, ◌≤◌}
 use Rattle.trial.proofs.compare.shape_ends.Given as goal
 
 abbrev pub invariant-loop-d : goal.invariant-loop-d

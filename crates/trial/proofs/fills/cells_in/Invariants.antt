@@ -1,5 +1,5 @@
 -- `trial::fills::cells_in` is safe and ends: d runs up to k. Assumes nothing.
-use Rattle.std.proofs.Common.{◌-◌, ◌≤◌, rules}
+use Rattle.std.proofs.Common.{◌-◌, ◌≤◌}
 use Rattle.trial.proofs.fills.cells_in.Given as goal
 
 abbrev pub invariant-loop-d : goal.invariant-loop-d

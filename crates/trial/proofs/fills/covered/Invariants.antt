@@ -1,5 +1,5 @@
 -- `trial::fills::covered` is safe and ends: q runs up to n. Assumes nothing.
-use Rattle.std.proofs.Common.{◌-◌, ◌≤◌, rules}
+use Rattle.std.proofs.Common.{◌-◌, ◌≤◌}
 use Rattle.trial.proofs.fills.covered.Given as goal
 
 abbrev pub invariant-loop-q : goal.invariant-loop-q

@@ -1,5 +1,5 @@
 -- `trial::fills::is_new` is safe and ends: p runs up to q. Assumes nothing.
-use Rattle.std.proofs.Common.{◌-◌, ◌≤◌, rules}
+use Rattle.std.proofs.Common.{◌-◌, ◌≤◌}
 use Rattle.trial.proofs.fills.is_new.Given as goal
 
 abbrev pub invariant-loop-p : goal.invariant-loop-p

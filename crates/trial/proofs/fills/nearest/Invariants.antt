@@ -1,5 +1,5 @@
 -- `trial::fills::nearest` is safe and ends: f runs up to 1001. Assumes nothing.
-use Rattle.std.proofs.Common.{◌-◌, ◌≤◌, rules}
+use Rattle.std.proofs.Common.{◌-◌, ◌≤◌}
 use Rattle.trial.proofs.fills.nearest.Given as goal
 
 abbrev pub invariant-loop-f : goal.invariant-loop-f

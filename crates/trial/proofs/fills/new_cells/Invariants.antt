@@ -1,5 +1,5 @@
 -- `trial::fills::new_cells` is safe and ends: m runs up to n. Assumes nothing.
-use Rattle.std.proofs.Common.{◌-◌, ◌≤◌, rules}
+use Rattle.std.proofs.Common.{◌-◌, ◌≤◌}
 use Rattle.trial.proofs.fills.new_cells.Given as goal
 
 abbrev pub invariant-loop-m : goal.invariant-loop-m

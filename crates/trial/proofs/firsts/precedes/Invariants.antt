@@ -1,5 +1,5 @@
 -- `trial::firsts::precedes` is safe and ends: w runs up to n. Assumes nothing.
-use Rattle.std.proofs.Common.{◌-◌, ◌≤◌, rules}
+use Rattle.std.proofs.Common.{◌-◌, ◌≤◌}
 use Rattle.trial.proofs.firsts.precedes.Given as goal
 
 abbrev pub invariant-loop-w : goal.invariant-loop-w

@@ -1,5 +1,5 @@
 -- `trial::firsts::put_first` is safe and ends: m runs up to n. Assumes nothing.
-use Rattle.std.proofs.Common.{◌≡◌, ◌-◌, ◌≤◌, length, rules}
+use Rattle.std.proofs.Common.{◌≡◌, ◌-◌, ◌≤◌, length}
 use Rattle.trial.proofs.firsts.put_first.Given as goal
 
 abbrev pub invariant-loop-m : goal.invariant-loop-m

@@ -1,5 +1,5 @@
 -- `trial::generate::one_shape` is safe and ends: d runs up to 32. Assumes nothing.
-use Rattle.std.proofs.Common.{◌-◌, ◌≤◌, rules}
+use Rattle.std.proofs.Common.{◌-◌, ◌≤◌}
 use Rattle.trial.proofs.generate.one_shape.Given as goal
 
 abbrev pub invariant-loop-d : goal.invariant-loop-d

@@ -1,5 +1,5 @@
 -- `trial::inside::put_placement` is safe and ends: i runs up to n. Assumes nothing.
-use Rattle.std.proofs.Common.{◌≡◌, ◌-◌, ◌≤◌, length, rules}
+use Rattle.std.proofs.Common.{◌≡◌, ◌-◌, ◌≤◌, length}
 use Rattle.trial.proofs.inside.put_placement.Given as goal
 
 abbrev pub invariant-loop-i : goal.invariant-loop-i

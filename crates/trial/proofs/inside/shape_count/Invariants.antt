@@ -1,5 +1,5 @@
 -- `trial::inside::shape_count` is safe and ends: s runs up to 32. Assumes nothing.
-use Rattle.std.proofs.Common.{◌-◌, ◌≤◌, rules}
+use Rattle.std.proofs.Common.{◌-◌, ◌≤◌}
 use Rattle.trial.proofs.inside.shape_count.Given as goal
 
 abbrev pub invariant-loop-s : goal.invariant-loop-s

@@ -1,7 +1,6 @@
 -- `trial::numbers::count_of` is safe: the word was found small and not negative. Assumes nothing.
 use Rattle.integers.proofs.Ints.{ints}
 use Rattle.integers.proofs.Machine.{cast_ok}
-use Rattle.std.proofs.Common.{rules}
 use Rattle.trial.proofs.numbers.count_of.Goals as goal
 
 pub overflow_cast-result : goal.overflow_cast-result

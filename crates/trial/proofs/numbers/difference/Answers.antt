@@ -2,7 +2,6 @@
 use Rattle.integers.specs.Integer.{Within}
 use Rattle.integers.proofs.Ints.{ints}
 use Rattle.integers.proofs.Machine.{bnd, diff-fits}
-use Rattle.std.proofs.Common.{rules}
 use Rattle.trial.proofs.numbers.difference.Goals as goal
 
 pub overflow_sub-result : goal.overflow_sub-result

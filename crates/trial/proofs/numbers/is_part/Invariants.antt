@@ -1,5 +1,5 @@
 -- `trial::numbers::is_part` is safe and ends: w runs up to n. Assumes nothing.
-use Rattle.std.proofs.Common.{◌-◌, ◌≤◌, rules}
+use Rattle.std.proofs.Common.{◌-◌, ◌≤◌}
 use Rattle.trial.proofs.numbers.is_part.Given as goal
 
 abbrev pub invariant-loop-w : goal.invariant-loop-w

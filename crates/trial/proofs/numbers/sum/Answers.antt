@@ -2,7 +2,6 @@
 use Rattle.integers.specs.Integer.{Within}
 use Rattle.integers.proofs.Ints.{ints}
 use Rattle.integers.proofs.Machine.{bnd, sum_fits}
-use Rattle.std.proofs.Common.{rules}
 use Rattle.trial.proofs.numbers.sum.Goals as goal
 
 pub overflow_add-result : goal.overflow_add-result

@@ -1,5 +1,5 @@
 -- `trial::reading::put_record` is safe and ends: w runs up to n. Assumes nothing.
-use Rattle.std.proofs.Common.{◌≡◌, ◌-◌, ◌≤◌, length, rules}
+use Rattle.std.proofs.Common.{◌≡◌, ◌-◌, ◌≤◌, length}
 use Rattle.trial.proofs.reading.put_record.Given as goal
 
 abbrev pub invariant-loop-w : goal.invariant-loop-w

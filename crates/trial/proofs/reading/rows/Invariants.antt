@@ -1,5 +1,5 @@
 -- `trial::reading::rows` is safe and ends: n runs up to 33. Assumes nothing.
-use Rattle.std.proofs.Common.{◌-◌, ◌≤◌, rules}
+use Rattle.std.proofs.Common.{◌-◌, ◌≤◌}
 use Rattle.trial.proofs.reading.rows.Given as goal
 
 abbrev pub invariant-loop-n : goal.invariant-loop-n

@@ -1,5 +1,5 @@
 -- `trial::refusals::box_holds` is safe and ends: d runs up to k. Assumes nothing.
-use Rattle.std.proofs.Common.{◌-◌, ◌≤◌, rules}
+use Rattle.std.proofs.Common.{◌-◌, ◌≤◌}
 use Rattle.trial.proofs.refusals.box_holds.Given as goal
 
 abbrev pub invariant-loop-d : goal.invariant-loop-d

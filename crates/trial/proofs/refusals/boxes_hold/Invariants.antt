@@ -1,5 +1,5 @@
 -- `trial::refusals::boxes_hold` is safe and ends: b runs up to n. Assumes nothing.
-use Rattle.std.proofs.Common.{◌-◌, ◌≤◌, rules}
+use Rattle.std.proofs.Common.{◌-◌, ◌≤◌}
 use Rattle.trial.proofs.refusals.boxes_hold.Given as goal
 
 abbrev pub invariant-loop-b : goal.invariant-loop-b

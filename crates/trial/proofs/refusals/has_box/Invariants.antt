@@ -1,5 +1,5 @@
 -- `trial::refusals::has_box` is safe and ends: b runs up to n. Assumes nothing.
-use Rattle.std.proofs.Common.{◌-◌, ◌≤◌, rules}
+use Rattle.std.proofs.Common.{◌-◌, ◌≤◌}
 use Rattle.trial.proofs.refusals.has_box.Given as goal
 
 abbrev pub invariant-loop-b : goal.invariant-loop-b

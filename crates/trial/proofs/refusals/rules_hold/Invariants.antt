@@ -1,5 +1,5 @@
 -- `trial::refusals::rules_hold` is safe and ends: r runs up to m. Assumes nothing.
-use Rattle.std.proofs.Common.{◌-◌, ◌≤◌, rules}
+use Rattle.std.proofs.Common.{◌-◌, ◌≤◌}
 use Rattle.trial.proofs.refusals.rules_hold.Given as goal
 
 abbrev pub invariant-loop-r : goal.invariant-loop-r

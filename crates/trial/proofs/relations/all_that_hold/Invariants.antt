@@ -1,5 +1,5 @@
 -- `trial::relations::all_that_hold` is safe and ends: m runs up to 14. Assumes nothing.
-use Rattle.std.proofs.Common.{◌-◌, ◌≤◌, rules}
+use Rattle.std.proofs.Common.{◌-◌, ◌≤◌}
 use Rattle.trial.proofs.relations.all_that_hold.Given as goal
 
 abbrev pub invariant-loop-m : goal.invariant-loop-m

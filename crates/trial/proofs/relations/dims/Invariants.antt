@@ -1,5 +1,5 @@
 -- `trial::relations::dims` is safe and ends: d runs up to n. Assumes nothing.
-use Rattle.std.proofs.Common.{◌-◌, ◌≤◌, rules}
+use Rattle.std.proofs.Common.{◌-◌, ◌≤◌}
 use Rattle.trial.proofs.relations.dims.Given as goal
 
 abbrev pub invariant-loop-d : goal.invariant-loop-d

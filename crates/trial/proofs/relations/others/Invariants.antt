@@ -1,5 +1,5 @@
 -- `trial::relations::others` is safe and ends: j runs up to n. Assumes nothing.
-use Rattle.std.proofs.Common.{◌-◌, ◌≤◌, rules}
+use Rattle.std.proofs.Common.{◌-◌, ◌≤◌}
 use Rattle.trial.proofs.relations.others.Given as goal
 
 abbrev pub invariant-loop-j : goal.invariant-loop-j

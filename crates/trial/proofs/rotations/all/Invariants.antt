@@ -1,5 +1,5 @@
 -- `trial::rotations::all` is safe and ends: m runs up to the 216 triples. Assumes nothing.
-use Rattle.std.proofs.Common.{◌-◌, ◌≤◌, rules}
+use Rattle.std.proofs.Common.{◌-◌, ◌≤◌}
 use Rattle.trial.proofs.rotations.all.Given as goal
 
 abbrev pub invariant-loop-m : goal.invariant-loop-m

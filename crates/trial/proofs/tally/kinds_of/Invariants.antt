@@ -1,5 +1,5 @@
 -- `trial::tally::kinds_of` is safe and ends: m runs up to 14. Assumes nothing.
-use Rattle.std.proofs.Common.{◌-◌, ◌≤◌, rules}
+use Rattle.std.proofs.Common.{◌-◌, ◌≤◌}
 use Rattle.trial.proofs.tally.kinds_of.Given as goal
 
 abbrev pub invariant-loop-m : goal.invariant-loop-m

@@ -19,7 +19,7 @@ use Rattle.integers.proofs.Ranges.{pos-nat}
 use Rattle.sheet.specs.Layout.{boxes, shape_of, is_of}
 use Rattle.sheet.specs.Accepted.{Count, Head, Block}
 use Rattle.outline.specs.Places.{shapes_most, first_at, rules_at, SameTo}
-use Rattle.outline.specs.Chain.{next_of, first_layout_of, Chained, ChainedFrom}
+use Rattle.outline.specs.Chain.{next_of, first_box_of, Chained, ChainedFrom}
 
 -- a word that is a small count
 count-is : {z : ℤ} {n : ℕ} → z ≡ pos n → n ≤ 128 → Count z
@@ -57,7 +57,7 @@ chained-start few h = record {
 module _ {block o : List ℤ} {b s : ℕ} (accepted : Block block) (x : ChainedFrom block o (b + 1)) (below : b < boxes block)
     (long : rules_at ≤ length o) (is : nat (shape_of block b) ≡ s) where
   abbrev next : ℕ
-  next = first_layout_of block o s
+  next = first_box_of block o s
 
   abbrev own : List ℤ
   own = set o b (pos next)
@@ -101,17 +101,17 @@ module _ {block o : List ℤ} {b s : ℕ} (accepted : Block block) (x : ChainedF
   of-own : (P : ℕ → Type 0) (t : ℕ) → is_of block b t ≡ true → P s → P t
   of-own P t e = subst P (sym is ∙ shape_is block b t e)
 
-  first-of-shape : (t : ℕ) → t < shapes_most → first_layout_of block both t < boxes block → is_of block (first_layout_of block both t) t ≡ true
+  first-of-shape : (t : ℕ) → t < shapes_most → first_box_of block both t < boxes block → is_of block (first_box_of block both t) t ≡ true
   first-of-shape t k i = ⊎_elim
       (λ e. subst (λ (z : ℤ). is_of block (nat z) t ≡ true) (sym e.0) e.1)
       (λ e. subst (λ (z : ℤ). is_of block (nat z) t ≡ true) (sym e.0)
       (x.first_is t k (subst (λ (z : ℤ). nat z < boxes block) e.0 i)))
       (heads t)
 
-  skips-from : (t c : ℕ) → t < shapes_most → b ≤ c → c < first_layout_of block both t → is_of block c t ≡ false
+  skips-from : (t c : ℕ) → t < shapes_most → b ≤ c → c < first_box_of block both t → is_of block c t ≡ false
   skips-from t c k m i = ⊎_elim
       (λ e. absurd (omega (arith, ap nat e.0)))
-      (λ e. each (λ (q : ℕ). q < first_layout_of block both t → is_of block q t ≡ false) (λ j. e.1)
+      (λ e. each (λ (q : ℕ). q < first_box_of block both t → is_of block q t ≡ false) (λ j. e.1)
       (λ q j i. x.first_skips t q k (omega arith) (subst (λ (z : ℤ). q < nat z) e.0 i)) c m i)
       (heads t)
 

@@ -11,16 +11,16 @@ module _ (block o : List ℤ) where
   abbrev pub next_of : ℕ → ℕ
   next_of b = nat (word o (next_at b))
 
-  abbrev pub first_layout_of : ℕ → ℕ
-  first_layout_of s = nat (word o (first_at s))
+  abbrev pub first_box_of : ℕ → ℕ
+  first_box_of s = nat (word o (first_at s))
 
   -- of the boxes from m on each link is to a box of the shape, and none of its boxes is passed over
   pub record ChainedFrom (m : ℕ) : Type 0 where
     pub first_count : (s : ℕ) → s < shapes_most → Count (word o (first_at s))
-    pub first_from : (s : ℕ) → s < shapes_most → m ≤ first_layout_of s
-    pub first_upto : (s : ℕ) → s < shapes_most → first_layout_of s ≤ boxes block
-    pub first_is : (s : ℕ) → s < shapes_most → first_layout_of s < boxes block → is_of block (first_layout_of s) s ≡ true
-    pub first_skips : (s b : ℕ) → s < shapes_most → m ≤ b → b < first_layout_of s → is_of block b s ≡ false
+    pub first_from : (s : ℕ) → s < shapes_most → m ≤ first_box_of s
+    pub first_upto : (s : ℕ) → s < shapes_most → first_box_of s ≤ boxes block
+    pub first_is : (s : ℕ) → s < shapes_most → first_box_of s < boxes block → is_of block (first_box_of s) s ≡ true
+    pub first_skips : (s b : ℕ) → s < shapes_most → m ≤ b → b < first_box_of s → is_of block b s ≡ false
     pub next_count : (b : ℕ) → m ≤ b → b < boxes block → Count (word o (next_at b))
     pub next_after : (b : ℕ) → m ≤ b → b < boxes block → b < next_of b
     pub next_upto : (b : ℕ) → m ≤ b → b < boxes block → next_of b ≤ boxes block

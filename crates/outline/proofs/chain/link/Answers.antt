@@ -8,7 +8,7 @@ use lib.ListN.{set}
 use Rattle.integers.specs.Integer.{nat}
 use Rattle.sheet.specs.Layout.{shape_of}
 use Rattle.outline.specs.Places.{shapes_most, first_at}
-use Rattle.outline.specs.Chain.{first_layout_of, ChainedFrom}
+use Rattle.outline.specs.Chain.{first_box_of, ChainedFrom}
 use Rattle.outline.proofs.Chains.{chained_more}
 use Rattle.outline.proofs.chain.link.Lts as lts
 use Rattle.outline.proofs.chain.link.Reads as reads
@@ -68,7 +68,7 @@ returns c =
     let block = (s i).args.block.now in
     let b = (s i).args.b in
     let o = (s i).args.outline.now in
-    let own : c.put.new.run ≡ set o b (pos (first_layout_of block o (shape i))) =
+    let own : c.put.new.run ≡ set o b (pos (first_box_of block o (shape i))) =
     c.put.ensures ∙ ap (λ (n : ℕ). set o b (pos n)) c.count_at-first.ensures in
     let both = c.put-2.ensures ∙ ap (λ (o : List ℤ). set o (first_at (shape i)) (pos b)) own in
     subst (λ (o : List ℤ). ChainedFrom block o b) (sym both)

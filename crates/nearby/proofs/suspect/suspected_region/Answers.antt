@@ -6,6 +6,7 @@ use mathlib.Core.List.{List}
 use Prim.Native.Nat.{ℕ, suc, ◌≤◌, ◌<◌}
 use native.Mathlib.Numerals.{add-one}
 use native.Mathlib.Omega.{arith}
+use borrow.Author.Rules.{rules}
 use lib.IntN.{ℤ}
 use lib.ListN.{length}
 use Rattle.integers.proofs.Booleans.{clash, fails, not-false}
@@ -152,8 +153,9 @@ shapes_region-x-requires c =
 pub returns-then-hit : goal.returns-then-hit
 returns-then-hit c =
     let i = row c.before.before.before.before.before in
+    let one : c.has_one_shape.result ≡ true = search rules in
     found c.before.before.before.before.before c.if-hit.true
-    (by-lowest _ _ i _ _ c.has_one_shape.ensures c.if-has_one_shape.true c.lowest_shape-t.ensures (c.shapes_region-x.ensures i))
+    (by-lowest _ _ i _ _ c.has_one_shape.ensures one c.lowest_shape-t.ensures (c.shapes_region-x.ensures i))
 
 pub set_region-x-requires : goal.set_region-x-requires
 set_region-x-requires c = versus c.before.before

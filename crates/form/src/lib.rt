@@ -16,7 +16,7 @@ use sheet::{BLOCK_WORDS, TABLE_WORDS};
 use stores::put_word;
 
 // Whether a text is in the form; its block and table as far as there is room, with zeros past the words; how many words it has for each.
-#[derive(Drop)]
+#[derive(Clone, Copy)]
 pub struct Parsed {
     pub formed: bool,
     pub block: [i64; BLOCK_WORDS],

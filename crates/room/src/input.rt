@@ -9,7 +9,7 @@ use std::io::{ErrorKind, Read};
 const TRIES: usize = 1000000;
 
 // How many bytes were put at the start of a lent run, and whether no read failed.
-#[derive(Drop)]
+#[derive(Clone, Copy)]
 pub(crate) struct Input {
     pub len: usize,
     pub whole: bool,

@@ -9,7 +9,7 @@ pub use line::TEXT_BYTES; // the most bytes of a text
 use sheet::{BLOCK_WORDS, TABLE_WORDS};
 
 // The refusal's number, 0 meaning none; block and table with the lengths in use, zeros past them; of a refused text lengths 0 and zeros.
-#[derive(Drop)]
+#[derive(Clone, Copy)]
 pub struct Reading {
     pub refusal: i64,
     pub block: [i64; BLOCK_WORDS],

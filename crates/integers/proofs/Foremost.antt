@@ -41,7 +41,8 @@ module _ {ℓ} {A : Type ℓ} (before : A → A → Bool) (p : ℕ → Bool) (f 
   foremost-more n far h = rw add-one (by (p n) (foremost before n p f) h)
     where
       by : (t : Bool) (o : Option A) → (t ≡ true → before far (f n) ≡ false)
-          → value_or far (cond t (some (joined before (f n) o)) o) ≡ cond t (cond (before (value_or far o) (f n)) (value_or far o) (f n)) (value_or far o)
+          → value_or far (cond t (some (joined before (f n) o)) o)
+          ≡ cond t (cond (before (value_or far o) (f n)) (value_or far o) (f n)) (value_or far o)
       by false o h = refl
       by true none h = rw (h refl)
       by true (some z) h = refl

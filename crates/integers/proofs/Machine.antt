@@ -1,5 +1,5 @@
 -- Integers as the machine holds them: which fit an i64, an equality tested on bits, a sum whose every step fits, casts.
---     fits_word z g                   SFits w64 z of a word z that was read (g is `.given`, or a call's `.ok`)
+--     fits_word z g                   SFits w64 z of a word z that was read (g: mag z < 2 ^ 63, its size fits)
 --     Within, within-..               bounds on the size of a number, which `omega ints` reads and proves
 --     bnd, num, _+ʷ_, _-ʷ_            an expression as the machine computes it: `sum_fits x y tt`, `diff-fits x y tt`, `exact e tt`
 --     cast_ok, abs-le, abs-pos        a word from 0 to n cast to an unsigned type

@@ -64,7 +64,8 @@ module _ (block : List ℤ) where
     pub fixed-settled : {v : List ℤ} → settle_of block u ≡ some v → fixed block v ≡ true → Places block t v
     fixed-settled {v} e f = k.part.places v (settle-places block u accepted v e f)
 
-    pub keeps-past : (i c : ℕ) (z : ℤ) → SplitAt block u i c z → NoPlacement block (upto_value block u i c z) → Keeps block t (past_value block u i c z)
+    pub keeps-past : (i c : ℕ) (z : ℤ) → SplitAt block u i c z → NoPlacement block (upto_value block u i c z)
+        → Keeps block t (past_value block u i c z)
     keeps-past i c z s none-upto =
         record {
           part = part-trans k.part (past-part block u accepted i c z s);

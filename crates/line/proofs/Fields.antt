@@ -118,7 +118,8 @@ module _ (s : List ℕ) (n p : ℕ) (w : List ℤ) (i : ℕ) where
           ∙ ap (line_onto w i) (numbers_more (n - (i + 1)) field (parts_from 44 s (e + 1)))
 
       pub fields-bad : number field ≡ none → line_of none ≡ walked
-      fields-bad f = onto-bad w i _ ∙ sym (next ∙ ap (λ (o : Option ℤ). line_onto w i (cons o (numbers_in (n - (i + 1)) (parts_from 44 s (e + 1))))) f)
+      fields-bad f = onto-bad w i _
+          ∙ sym (next ∙ ap (λ (o : Option ℤ). line_onto w i (cons o (numbers_in (n - (i + 1)) (parts_from 44 s (e + 1))))) f)
 
       pub fields-more : (v : ℤ) → number field ≡ some v → line_onto (set w i v) (i + 1) (numbers_in (n - (i + 1)) (parts_from 44 s (e + 1))) ≡ walked
       fields-more v f =

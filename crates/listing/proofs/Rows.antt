@@ -35,7 +35,8 @@ pub rows_end : (len m : ℕ) (t : List ℤ) {n : ℕ} → n ≡ 0 → row_lines 
 unfolding row_lines
 rows_end len m t e = rw e
 
-rows-one : (len n m : ℕ) (t : List ℤ) → row_lines len (suc n) m t ≡ (shown (pos (suc m)) ++ commas (take len t)) ++ row_lines len n (suc m) (drop len t)
+rows-one : (len n m : ℕ) (t : List ℤ) → row_lines len (suc n) m t
+    ≡ (shown (pos (suc m)) ++ commas (take len t)) ++ row_lines len n (suc m) (drop len t)
 unfolding row_lines
 rows-one len n m t = refl
 

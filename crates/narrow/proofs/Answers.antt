@@ -21,7 +21,8 @@ module _ (t : List ℤ) {o : Option (List ℤ)} where
   unfolding step_answer value_or
   step-none e = (ap (step_answer t) (sym e), ap (value_or t) (sym e))
 
-  pub step-some : {v u : List ℤ} {b : Bool} → o ≡ some v → u ≡ v → same_words u t ≡ b → (cond b S.Still S.Moved ≡ step_answer t o) × (u ≡ value_or t o)
+  pub step-some : {v u : List ℤ} {b : Bool} → o ≡ some v → u ≡ v → same_words u t ≡ b
+      → (cond b S.Still S.Moved ≡ step_answer t o) × (u ≡ value_or t o)
   unfolding step_answer value_or
   step-some e q d = (
     ap (λ (b : Bool). cond b S.Still S.Moved) (sym d ∙ ap (λ (x : List ℤ). same_words x t) q) ∙ ap (step_answer t) (sym e),

@@ -29,4 +29,5 @@ module _ (block : List ℤ) (given : List ℤ) where
   -- the promise, on any words: the first refusal that applies, or what the definition of settling finds
   abbrev pub Promise : Settling → List ℤ → Type 0
   Promise finding left =
-      (finding ≡ settle_answer (refusal block given) (settle_of block given)) × (left ≡ table_after (refusal block given) given (settle_of block given))
+      (finding ≡ settle_answer (refusal block given) (settle_of block given))
+      × (left ≡ table_after (refusal block given) given (settle_of block given))

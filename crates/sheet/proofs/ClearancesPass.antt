@@ -3,7 +3,8 @@
 use Rattle.std.specs.Prelude.{◌&&◌, [], ◌∷◌, T}
 use Rattle.integers.specs.Integer.{minus}
 use Rattle.sheet.specs.Computing.{computing}
-use Rattle.sheet.specs.Positions.{same_table, same_number, same_truth, forbids_only, answered, passes, all_pass, words, row, row2, boxes_from, ab_rows}
+use Rattle.sheet.specs.Positions.{same_table, same_number, same_truth, forbids_only, answered, passes, all_pass}
+use Rattle.sheet.specs.Positions.{words, row, row2, boxes_from, ab_rows}
 use Rattle.sheet.specs.ClearancePositions.{ab_apart, twice, room_apart, squares, squares_at, unit_apart, clearance_positions, ground_is}
 
 -- THE POSITIONS: the checker computes that every case passes

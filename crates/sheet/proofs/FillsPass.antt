@@ -5,7 +5,8 @@ use Rattle.sheet.specs.Computing.{computing}
 use Rattle.sheet.specs.Refusal.{bad_cells}
 use Rattle.sheet.specs.Fill.{permille}
 use Rattle.sheet.specs.Positions.{words, row, row2}
-use Rattle.sheet.specs.FillPositions.{is_answered, all_answered, with_rules, room_for, room_beside, placed, corridor, solid, largest, fills, is_counted}
+use Rattle.sheet.specs.FillPositions.{is_answered, all_answered, with_rules, room_for, room_beside, placed}
+use Rattle.sheet.specs.FillPositions.{corridor, solid, largest, fills, is_counted}
 
 -- THE CASES OF T-03: the checker computes that every one passes
 pub fills-pass : T (all_answered fills)

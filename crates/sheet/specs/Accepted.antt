@@ -4,7 +4,8 @@ use Rattle.std.specs.Prelude.{◌≡◌, true, List, ℕ, ◌*◌, ◌≤◌, �
 use Rattle.integers.specs.Integer.{nat, Within}
 use Rattle.integers.specs.Words.{word}
 use Rattle.sheet.specs.Layout.{axes_most, rows_most, dims, axes, boxes, rules, block_length, row_len, shape_of, offset, size, is_of, kind, dim_set}
-use Rattle.sheet.specs.Layout.{is_non_overlap, is_containment, row_set, room_low, room_high, clearance, names_dim, rows, shape_set, low, high, has_shape}
+use Rattle.sheet.specs.Layout.{is_non_overlap, is_containment, row_set, room_low, room_high, clearance}
+use Rattle.sheet.specs.Layout.{names_dim, rows, shape_set, low, high, has_shape}
 
 -- a word that is a count, an index or a set
 pub record Count (z : ℤ) : Type 0 where

@@ -27,7 +27,8 @@ module _ (block : List ℤ) where
   pub record Narrowed (table : List ℤ) (i : ℕ) (after : List ℤ) : Type 0 where
     pub as_long : length after ≡ length table
     -- other rows keep their words
-    pub others : (at : ℕ) → (at < row_at block i → word after at ≡ word table at) × (row_at block i + row_len block ≤ at → word after at ≡ word table at)
+    pub others : (at : ℕ) → (at < row_at block i → word after at ≡ word table at)
+        × (row_at block i + row_len block ≤ at → word after at ≡ word table at)
     -- the smallest ranges that hold all allowed points
     pub lows : (d : ℕ) → d < axes block → Reached table i d (low block after i d)
     pub highs : (d : ℕ) → d < axes block → Reached table i d (high block after i d)

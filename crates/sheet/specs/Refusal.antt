@@ -6,7 +6,8 @@ use Rattle.std.specs.Int.Signed.{le_z, lt_z}
 use Rattle.integers.specs.Integer.{nat, within}
 use Rattle.integers.specs.Below.{all_below, all_up_to}
 use Rattle.integers.specs.Words.{word}
-use Rattle.sheet.specs.Layout.{layout_rows_most, dims, axes, boxes, rules, row_len, block_length, row_at, valid_box, valid_rule, rows, has_shape, valid_row}
+use Rattle.sheet.specs.Layout.{layout_rows_most, dims, axes, boxes, rules, row_len, block_length}
+use Rattle.sheet.specs.Layout.{row_at, valid_box, valid_rule, rows, has_shape, valid_row}
 use Rattle.sheet.specs.Placement.{fixed, good}
 use Rattle.sheet.specs.Fill.{rule_asked, is_fill_rule, room_cells}
 

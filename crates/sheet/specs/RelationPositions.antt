@@ -66,7 +66,8 @@ case b t i j d f = record { block = b; table = t; row_of = i; other = j; dim = d
 -- the longer row at x: what it bears to the shorter one, and what that bears to it
 abbrev both : ℤ → Allen → Allen → List StandingCase
 both x to back =
-    case long_and_short (long_at x) (pos 1) (pos 2) (pos 0) (bears_to to) ∷ case long_and_short (long_at x) (pos 2) (pos 1) (pos 0) (bears_to back) ∷ []
+    case long_and_short (long_at x) (pos 1) (pos 2) (pos 0) (bears_to to)
+    ∷ case long_and_short (long_at x) (pos 2) (pos 1) (pos 0) (bears_to back) ∷ []
 
 unfoldable pub standings : List StandingCase
 standings =

@@ -32,7 +32,8 @@ pub none-past : (block : List ℤ) (t : List ℤ) (i : ℕ) {s m : ℕ} → Coun
 unfolding has_shape
 none-past block t i {s} {m} c h k = fails (λ e. absurd (omega (arith, k, small-set {n = s} {s = m} (omega (ints, pos-nat c.from, h)) e)))
 
-pub none_before : (block : List ℤ) (t : List ℤ) (i : ℕ) {set : ℕ} → set ≡ nat (shape_set block t i) → (s : ℕ) → 1 ≤ s → s ≤ count_trailing_zeros 32 set
+pub none_before : (block : List ℤ) (t : List ℤ) (i : ℕ) {set : ℕ} → set ≡ nat (shape_set block t i)
+    → (s : ℕ) → 1 ≤ s → s ≤ count_trailing_zeros 32 set
     → has_shape block t i s ≡ false
 unfolding has_shape holds
 none_before block t i q zero f u = absurd (omega arith)

@@ -155,7 +155,8 @@ loop-d-preserved c =
           (append_assoc (so_far (top p)) (low_word p ∷ []) (hi ∷ []) ∙ sym (pairs_below-more (d p) (lows (top p)) (highs (top p))))
           (written-more (low-written p) (at (top p) + 2 + 2 * d p) hi (omega (arith, low-long p)) (omega (arith, ends (top p), below p))
           (c.put-moved-in-loop-d.ensures.0 ∙ ap (set p.put-moved.new.table (at (top p) + 2 + 2 * d p)) e)
-          (c.put-moved-in-loop-d.ensures.1 ∙ ap (λ (v : ℤ). p.put-moved.result || not (eq_z (word p.put-moved.new.table (at (top p) + 2 + 2 * d p)) v)) e)),
+          (c.put-moved-in-loop-d.ensures.1 ∙ ap (λ (v : ℤ). p.put-moved.result || not (eq_z
+          (word p.put-moved.new.table (at (top p) + 2 + 2 * d p)) v)) e)),
     )
 
 pub overflow_cast-shapes : goal.overflow_cast-shapes

@@ -7,7 +7,8 @@ use Rattle.narrow.proofs.Writes.{Written}
 use Rattle.narrow.proofs.write_row.Given as goal
 
 abbrev pub invariant-loop-d : goal.invariant-loop-d
-invariant-loop-d l = (l.d ≤ l.k) × Written l.initial.table (l.at + 1) (pairs_below l.d (λ m. end_at false m l.ends) (λ m. end_at true m l.ends)) l.table l.moved
+invariant-loop-d l = (l.d ≤ l.k) × Written l.initial.table (l.at + 1) (pairs_below l.d (λ m. end_at false m l.ends) (λ m. end_at true m l.ends))
+    l.table l.moved
 
 abbrev pub decreases-loop-d : goal.decreases-loop-d
 decreases-loop-d l = l.k - l.d

@@ -1,5 +1,6 @@
 -- `answer` meets its contract: what reading handed back is refused or settled, and what that prints is put. Assumes nothing.
-use Rattle.std.proofs.Common.{rules, ◌≡◌, ◌≤◌, ℕ, ℤ, pos, ◌≤ℤ◌, ◌<ℤ◌, FitsSigned, w64, to_z, of_z, List, ◌++◌, length, take, drop, sym, ap, ◌∙◌, arith, length-take-le}
+use Rattle.std.proofs.Common.{rules, ◌≡◌, ◌≤◌, ℕ, ℤ, pos, ◌≤ℤ◌, ◌<ℤ◌, FitsSigned, w64, to_z, of_z, List}
+use Rattle.std.proofs.Common.{◌++◌, length, take, drop, sym, ap, ◌∙◌, arith, length-take-le}
 use mir.Facts.{to_z-of_z}
 use Rattle.sheet.specs.Layout.{table_most}
 use Rattle.sheet.specs.Text.{reading}

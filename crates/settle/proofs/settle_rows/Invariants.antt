@@ -8,7 +8,8 @@ use Rattle.settle.proofs.Worked.{OnTheWay, to_go}
 use Rattle.settle.proofs.settle_rows.Given as goal
 
 abbrev pub invariant-loop-known : goal.invariant-loop-known
-invariant-loop-known l = OnTheWay l.block l.initial.table l.table l.due × (l.n ≡ rows l.block l.initial.table) × (l.at ≤ l.n) × (length l.suspects ≡ length l.initial.suspects) × (length l.due ≡ rows_most)
+invariant-loop-known l = OnTheWay l.block l.initial.table l.table l.due × (l.n ≡ rows l.block l.initial.table)
+    × (l.at ≤ l.n) × (length l.suspects ≡ length l.initial.suspects) × (length l.due ≡ rows_most)
 
 abbrev pub decreases-loop-known : goal.decreases-loop-known
 decreases-loop-known l = to_go l.block (rows l.block l.initial.table) l.table l.due

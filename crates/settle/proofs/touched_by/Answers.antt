@@ -52,7 +52,8 @@ loop-m-preserved c =
             (setting-put now-set (omega (arith, long, c.requires.0.long, c.requires.0.count, c.requires.0.on.table.whole.few_rows)))
         | then-due-m-ne1+else-threatens x ↦ subst next (sym x.due-is)
             (setting-stay now-set (λ e kind names-i names. x.threatens.ensures x.if-threatens.false names))
-        | else-due-m-ne1 x ↦ subst next (sym x.due-is) (setting-stay now-set (λ e. clash (todo-taken c.loop-m.due c.loop-m.m c.t12-1.given x.if-due-m-ne1.false) e))
+        | else-due-m-ne1 x ↦ subst next (sym x.due-is)
+            (setting-stay now-set (λ e. clash (todo-taken c.loop-m.due c.loop-m.m c.t12-1.given x.if-due-m-ne1.false) e))
       ],
       c.if-due-m-ne1.auto.due ∙ long,
     )

@@ -7,7 +7,8 @@ use Rattle.settle.proofs.Turns.{Setting}
 use Rattle.settle.proofs.touched_by.Given as goal
 
 abbrev pub invariant-loop-m : goal.invariant-loop-m
-invariant-loop-m l = (l.m ≤ l.n) × Setting l.initial.due (Spared l.block l.table l.i.number l.r.number) l.m l.due × (length l.due ≡ length l.initial.due)
+invariant-loop-m l = (l.m ≤ l.n) × Setting l.initial.due (Spared l.block l.table l.i.number l.r.number) l.m l.due
+    × (length l.due ≡ length l.initial.due)
 
 abbrev pub decreases-loop-m : goal.decreases-loop-m
 decreases-loop-m l = l.n - l.m

@@ -8,7 +8,8 @@ use Rattle.integers.specs.Words.{list_below}
 use Rattle.sweep.proofs.Rotations.{rotation-out, rotation-below}
 use Rattle.sweep.proofs.Table.{reduced, table-rule, reduced-rotation}
 use Rattle.sweep.proofs.rotated.Goals as goal
-use Rattle.sweep.proofs.rotated.Goals.{else-k-le-COORDINATES-via-then-k-le-COORDINATES+then-d-k+else-j-k, else-k-le-COORDINATES-via-then-k-le-COORDINATES+else-d-k, else-k-le-COORDINATES-via-else-k-le-COORDINATES}
+use Rattle.sweep.proofs.rotated.Goals.{else-k-le-COORDINATES-via-then-k-le-COORDINATES+then-d-k+else-j-k}
+use Rattle.sweep.proofs.rotated.Goals.{else-k-le-COORDINATES-via-then-k-le-COORDINATES+else-d-k, else-k-le-COORDINATES-via-else-k-le-COORDINATES}
 
 -- the entry that is read is the rotation's
 pub returns-then-j-k : goal.returns-then-j-k

@@ -43,7 +43,8 @@ returns-then-m-gt-TABLE_WORDS c =
     let p = c.parse_text-p in
     let g = c.refusal in
     let found = to_z-of_z (fits_word _ g.type_inv) ∙ g.ensures in
-    c.refused-then-m-gt-TABLE_WORDS.ensures ∙ read-rows _ p.result p.ensures (not-false c.if-not-p.false) c.if-n-gt-BLOCK_WORDS.false c.if-m-gt-TABLE_WORDS.true found
+    c.refused-then-m-gt-TABLE_WORDS.ensures ∙ read-rows _ p.result p.ensures (not-false c.if-not-p.false)
+    c.if-n-gt-BLOCK_WORDS.false c.if-m-gt-TABLE_WORDS.true found
 
 pub slice_bounds-b-end-2 : goal.slice_bounds-b-end-2
 slice_bounds-b-end-2 c = block_in c.args.text.now c.parse_text-p.ensures c.if-n-gt-BLOCK_WORDS.false

@@ -25,4 +25,5 @@ pub returns : goal.returns
 returns c =
     let l = c.before in
     sym (take_all l.loop-at.at l.loop-at.to (omega (arith, l.before.requires)))
-    ∙ l.loop-at.invariant.2 ∙ take_all l.loop-at.at l.before.args.from.now (omega (arith, c.loop-at-test.false, l.loop-at.invariant.1, l.before.requires))
+    ∙ l.loop-at.invariant.2 ∙ take_all l.loop-at.at l.before.args.from.now
+    (omega (arith, c.loop-at-test.false, l.loop-at.invariant.1, l.before.requires))

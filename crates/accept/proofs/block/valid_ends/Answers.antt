@@ -52,7 +52,8 @@ returns-then-is_equal c =
     let e = c.before.before.before in
     let n = e.before.before in
     rw (no_room n.before.before, not_named n, sym (low-zero e) ∙ c.before.before.if-is_equal.true)
-    (c.is_equal-then-is_equal.ensures ∙ ap (λ (z : ℤ). eq_z z (pos 0)) (read_back c.before.room_high-then-is_equal.ensures c.before.room_high-then-is_equal.type_inv))
+    (c.is_equal-then-is_equal.ensures ∙ ap (λ (z : ℤ). eq_z z (pos 0))
+    (read_back c.before.room_high-then-is_equal.ensures c.before.room_high-then-is_equal.type_inv))
 
 pub returns-else-is_equal : goal.returns-else-is_equal
 unfolding valid_ends

@@ -34,4 +34,9 @@ pub returns : goal.returns
 returns c =
     let e = c.before.before in
     let s = e.before.before in
-    rw (passes-by (low-in e.before) e.if-not-is_within.false-raw, passes-by (high-in c.before) c.if-not-is_within-2.false-raw, to_z-of_z s.ranges.a, to_z-of_z s.ranges.b)
+    rw (
+      passes-by (low-in e.before) e.if-not-is_within.false-raw,
+      passes-by (high-in c.before) c.if-not-is_within-2.false-raw,
+      to_z-of_z s.ranges.a,
+      to_z-of_z s.ranges.b,
+    )

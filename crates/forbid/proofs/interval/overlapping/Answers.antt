@@ -42,7 +42,8 @@ pub overflow_add-result-3 : goal.overflow_add-result-3
 overflow_add-result-3 c = let s = c.before.before.before.before.before.before.before in search (add-literal-fits (first s +ʷ back-from-end s))
 
 pub overflow_sub-result : goal.overflow_sub-result
-overflow_sub-result c = let s = c.before.before.before.before.before.before.before in search (literal-less-fits (first s +ʷ back-from-end s) (clearance s))
+overflow_sub-result c = let s = c.before.before.before.before.before.before.before in
+    search (literal-less-fits (first s +ʷ back-from-end s) (clearance s))
 
 -- the places of the second sum
 abbrev top : goal.After-struct_told-4-1 → Start

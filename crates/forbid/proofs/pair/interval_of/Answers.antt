@@ -34,7 +34,8 @@ overlapping-requires c =
     let d = axis c.args.block.now h in
     let low = within_by (bits_back c.low_of-low.type_inv ∙ c.low_of-low.ensures) (w.table.lows _ _ j.from j.upto d) in
     let high = within_by (bits_back c.high_of-high.type_inv ∙ c.high_of-high.ensures) (w.table.highs _ _ j.from j.upto d) in
-    let near = within_by (bits_back c.clearance_of-clearance.type_inv ∙ c.clearance_of-clearance.ensures) (w.accepted.clearances _ _ w.rule.below h) in
+    let near = within_by (bits_back c.clearance_of-clearance.type_inv ∙ c.clearance_of-clearance.ensures)
+    (w.accepted.clearances _ _ w.rule.below h) in
     record {
       own_start = within_by c.extent_of-own.ensures.0 (w.own.starts _ h);
       own_end = within_by c.extent_of-own.ensures.1 (w.own.ends _ h);

@@ -7,7 +7,8 @@ use Rattle.forbid.proofs.Rows.{shapes_to}
 use Rattle.forbid.proofs.row.set_region.Given as goal
 
 abbrev pub invariant-loop-t : goal.invariant-loop-t
-invariant-loop-t l = (l.t ≤ 32) × ((i : ℕ) → IsRegion (axes l.block) (shapes_to l.block l.table l.r.number i l.s l.j.number l.t) l.p (record { hit = true; area = l.area }))
+invariant-loop-t l = (l.t ≤ 32) × ((i : ℕ) → IsRegion (axes l.block) (shapes_to l.block l.table l.r.number i l.s l.j.number l.t) l.p
+    (record { hit = true; area = l.area }))
 
 abbrev pub decreases-loop-t : goal.decreases-loop-t
 decreases-loop-t l = 32 - l.t

@@ -231,7 +231,8 @@ find_upto-returns t c =
     let w = c.if-not-find.ensures in
     let written = c.copy.ensures ∙ left-front _ _ _ c.args.s c.requires.0 c.requires.1 c.copy_upto.ensures c.find.new.table w in
     record {
-      yes = λ _. subst (Places c.args.block.now c.args.table.now) (sym written) (placed _ _ _ c.args.s c.requires.0 c.requires.1 c.copy_upto.ensures w);
+      yes = λ _. subst (Places c.args.block.now c.args.table.now) (sym written)
+          (placed _ _ _ c.args.s c.requires.0 c.requires.1 c.copy_upto.ensures w);
       no = λ q. clash refl q;
       same = λ q. clash refl q;
     }

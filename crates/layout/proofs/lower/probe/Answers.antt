@@ -152,4 +152,5 @@ keep_past-requires c =
 pub returns : goal.returns
 returns c =
     let q = a c.before.before.before.before.before in
-    missing (subst (NoPlacement (block (s q))) (is-upto q) ((in-part c.before.before.before.before.before).no c.if-place.false)) c.keep_past.ensures refl
+    missing (subst (NoPlacement (block (s q))) (is-upto q) ((in-part c.before.before.before.before.before).no c.if-place.false))
+    c.keep_past.ensures refl

@@ -36,16 +36,20 @@ digit b n k is passed room =
     record { test = test; low = (between-true test).0; high = (between-true test).1; small = room_small k n room }
 
 pub overflow_mul-n : goal.overflow_mul-n
-overflow_mul-n c = let d = digit (get_or c.args.f.now c.loop-i.i 0) _ _ c.is_between.ensures c.if-not-is_between.false c.loop-i.invariant.1 in omega arith
+overflow_mul-n c = let d = digit (get_or c.args.f.now c.loop-i.i 0) _ _ c.is_between.ensures c.if-not-is_between.false c.loop-i.invariant.1 in
+    omega arith
 
 pub overflow_sub-n : goal.overflow_sub-n
-overflow_sub-n c = let d = digit (get_or c.args.f.now c.loop-i.i 0) _ _ c.is_between.ensures c.if-not-is_between.false c.loop-i.invariant.1 in omega arith
+overflow_sub-n c = let d = digit (get_or c.args.f.now c.loop-i.i 0) _ _ c.is_between.ensures c.if-not-is_between.false c.loop-i.invariant.1 in
+    omega arith
 
 pub overflow_cast-n : goal.overflow_cast-n
-overflow_cast-n c = let d = digit (get_or c.args.f.now c.loop-i.i 0) _ _ c.is_between.ensures c.if-not-is_between.false c.loop-i.invariant.1 in omega arith
+overflow_cast-n c = let d = digit (get_or c.args.f.now c.loop-i.i 0) _ _ c.is_between.ensures c.if-not-is_between.false c.loop-i.invariant.1 in
+    omega arith
 
 pub overflow_add-n : goal.overflow_add-n
-overflow_add-n c = let d = digit (get_or c.args.f.now c.loop-i.i 0) _ _ c.is_between.ensures c.if-not-is_between.false c.loop-i.invariant.1 in omega arith
+overflow_add-n c = let d = digit (get_or c.args.f.now c.loop-i.i 0) _ _ c.is_between.ensures c.if-not-is_between.false c.loop-i.invariant.1 in
+    omega arith
 
 pub overflow_add-i : goal.overflow_add-i
 overflow_add-i c = omega arith

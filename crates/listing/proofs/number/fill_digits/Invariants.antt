@@ -8,7 +8,8 @@ use Rattle.sheet.specs.Text.{decimal}
 use Rattle.listing.proofs.number.fill_digits.Given as goal
 
 abbrev pub invariant-loop-i : goal.invariant-loop-i
-invariant-loop-i l = (decimal l.i l.m (drop l.i l.buf) ≡ decimal (length l.initial.buf) l.n []) × (l.i ≤ length l.buf) × (length l.buf ≡ length l.initial.buf)
+invariant-loop-i l = (decimal l.i l.m (drop l.i l.buf) ≡ decimal (length l.initial.buf) l.n []) × (l.i ≤ length l.buf)
+    × (length l.buf ≡ length l.initial.buf)
 
 abbrev pub decreases-loop-i : goal.decreases-loop-i
 decreases-loop-i l = l.i

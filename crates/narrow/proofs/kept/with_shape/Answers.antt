@@ -149,7 +149,8 @@ cut_box-cut-requires c = rw add-one (subject c.before)
 pub returns-then-not-holds : goal.returns-then-not-holds
 returns-then-not-holds c =
     let h = c.before in
-    skipped (s h) (none_allowed (block (s h)) (table (s h)) (row (s h)) (next (s h)) (cut h) (box h) (sym (tested h) ∙ not-true c.if-not-holds.true-raw))
+    skipped (s h) (none_allowed (block (s h)) (table (s h)) (row (s h)) (next (s h)) (cut h) (box h)
+    (sym (tested h) ∙ not-true c.if-not-holds.true-raw))
 
 pub gather-nearby-requires : goal.gather-nearby-requires
 gather-nearby-requires c = rw add-one (subject (s c.before.before.before))
@@ -170,7 +171,8 @@ returns-then-lists_nothing c =
     let a = s (h l) in
     let on = a.requires.0.on in
     let low = free c.before.before.before.before.before.before.before.before c.if-lists_nothing.true (cut (h l)).low (filled l) in
-    let high = free c.before.before.before.before.before.before.before.before c.if-lists_nothing.true (cut (h l)).high (high-in (axes (block a)) (cut (h l)) (filled l)) in (
+    let high = free c.before.before.before.before.before.before.before.before c.if-lists_nothing.true (cut (h l)).high
+    (high-in (axes (block a)) (cut (h l)) (filled l)) in (
       sym (kept-shape (block a) (table a) (row a) (next a) (cut (h l)).low a.requires.1 low),
       λ flip d k. inl (corners-reach (block a) (table a) on.table (row a) on.row.from on.row.upto on.accepted.head.few_axes
           a.args.s a.requires.1 (cut (h l)) (box (h l)) low high c.take_in.ensures c.take_in-then-lists_nothing.ensures

@@ -60,7 +60,8 @@ pair_meets-x-requires c = let x = rival c.before in (rw c.hulls-pair.ensures (ri
 
 pub returns-then-not-hit : goal.returns-then-not-hit
 returns-then-not-hit c =
-    grows-clear (rival-clear (rival c.before.before.before) (rw c.hulls-pair.ensures at (c.pair_meets-x.ensures.clear (not-true c.if-not-hit.true-raw))))
+    grows-clear (rival-clear (rival c.before.before.before)
+    (rw c.hulls-pair.ensures at (c.pair_meets-x.ensures.clear (not-true c.if-not-hit.true-raw))))
 
 pub fills_hulls-fills-requires : goal.fills_hulls-fills-requires
 fills_hulls-fills-requires c =

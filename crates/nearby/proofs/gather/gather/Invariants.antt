@@ -15,7 +15,8 @@ use Rattle.nearby.proofs.gather.gather.Given as goal
 abbrev pub invariant-loop-r : goal.invariant-loop-r
 invariant-loop-r l =
     (l.r ≤ l.n) × Open l.block l.table l.i.number l.s l.suspects l.known l.found
-    × Grows l.block l.table l.i.number l.s (λ p. any_below l.r (λ m. bit (word l.outline rules_at) m && rule_forbids l.block l.table l.i.number l.s m p))
+    × Grows l.block l.table l.i.number l.s
+    (λ p. any_below l.r (λ m. bit (word l.outline rules_at) m && rule_forbids l.block l.table l.i.number l.s m p))
     l.initial.suspects l.initial.known l.initial.found l.suspects l.known l.found
     × (length l.suspects ≡ length l.initial.suspects)
 

@@ -26,7 +26,8 @@ use Rattle.nearby.specs.Places.{suspect_at, rule_of, row_of, suspect_area}
 use Rattle.nearby.specs.Listing.{Suspect}
 use Rattle.nearby.proofs.suspect.suspected_region.Invariants.{Silent}
 use Rattle.nearby.proofs.suspect.suspected_region.Goals as goal
-use Rattle.nearby.proofs.suspect.suspected_region.Goals.{then-area_holds+then-has_one_shape+else-hit, then-area_holds+else-has_one_shape+else-hit-2, else-area_holds}
+use Rattle.nearby.proofs.suspect.suspected_region.Goals.{then-area_holds+then-has_one_shape+else-hit}
+use Rattle.nearby.proofs.suspect.suspected_region.Goals.{then-area_holds+else-has_one_shape+else-hit-2, else-area_holds}
 
 module _ (block : List ℤ) (table : List ℤ) (i : ℕ) (s : ℕ) where
   -- rule r and row j forbid what suspect m does, where they are its rule and its row

@@ -86,4 +86,5 @@ pub shape_of-ends : goal.shape_of-ends
 shape_of-ends c = c.before.loop-d.invariant.1 ∙ sym c.before.before.requires
 
 pub returns : goal.returns
-returns c = let q : c.before.loop-d.d ≡ coordinates = omega (arith, c.before.loop-d.invariant.0, c.loop-d-test.false) in rw q at c.before.loop-d.invariant.2
+returns c = let q : c.before.loop-d.d ≡ coordinates = omega (arith, c.before.loop-d.invariant.0, c.loop-d-test.false) in
+    rw q at c.before.loop-d.invariant.2

@@ -72,8 +72,11 @@ loop-d-preserved c =
     let P = CutTo a.block.now a.outline.now a.r.number a.s (l.d + 1) a.ends.now in (
       omega (arith, l.invariant.0, c.if-d-k.false),
       elim c.if-names_dim.branch [
-        | then-names_dim b ↦ subst P (sym b.ends-is)
-            (b.cut_by_side.auto.ends ∙ l.invariant.1.0, cuts-more _ l.invariant.1.1 (cuts-in (sym c.names_dim.ensures ∙ b.if-names_dim.true) b.cut_by_side.ensures))
+        | then-names_dim b ↦ subst P (sym b.ends-is) (
+          b.cut_by_side.auto.ends ∙ l.invariant.1.0,
+          cuts-more _ l.invariant.1.1
+              (cuts-in (sym c.names_dim.ensures ∙ b.if-names_dim.true) b.cut_by_side.ensures),
+        )
         | else-names_dim b ↦ subst P (sym b.ends-is)
             (l.invariant.1.0, cuts-more _ l.invariant.1.1 (cuts-out _ (sym c.names_dim.ensures ∙ b.if-names_dim.false)))
       ],

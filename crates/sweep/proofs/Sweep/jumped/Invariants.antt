@@ -8,7 +8,8 @@ use Rattle.sweep.proofs.Points.{Made}
 use Rattle.sweep.proofs.Sweep.jumped.Given as goal
 
 abbrev pub invariant-loop-e : goal.invariant-loop-e
-invariant-loop-e l = (l.self.candidate ≡ l.initial.self.candidate) × (l.self.live ≡ l.initial.self.live) × Made l.initial.self.jump (lessers l.initial.self.jump (nexts l.last)) l.self.jump l.e
+invariant-loop-e l = (l.self.candidate ≡ l.initial.self.candidate) × (l.self.live ≡ l.initial.self.live)
+    × Made l.initial.self.jump (lessers l.initial.self.jump (nexts l.last)) l.self.jump l.e
 
 abbrev pub decreases-loop-e : goal.decreases-loop-e
 decreases-loop-e l = coordinates - l.e

@@ -69,7 +69,7 @@
 
    There is no global state, no memory is allocated and no pointer is kept, so calls on different tables
    may run in different threads at once, also over one block. Nothing is proved about the stack: where it
-   was measured zk_settle, zk_narrow, zk_least and zk_greatest used 62 to 66 KB of it (most of it a list
+   was measured (with the kit before the port to today's Rattle) zk_settle, zk_narrow, zk_least and zk_greatest used 62 to 66 KB of it (most of it a list
    of what can forbid a row, and an outline of the block), zk_check_placement and zk_point_allowed 13 KB,
    zk_fill 17 KB, the others but one less than 1 KB; 128 KB leave room for changes. The one is
    zk_first_layout, the only function that recurses: each level of its search has a copy of the table and

@@ -68,14 +68,14 @@
    Nothing else is asked: words and numbers may have any value.
 
    There is no global state, no memory is allocated and no pointer is kept, so calls on different tables
-   may run in different threads at once, also over one block. Nothing is proved about the stack: where it
-   was measured (with the kit before the port to today's Rattle) zk_settle, zk_narrow, zk_least and zk_greatest used 62 to 66 KB of it (most of it a list
-   of what can forbid a row, and an outline of the block), zk_check_placement and zk_point_allowed 13 KB,
-   zk_fill 17 KB, the others but one less than 1 KB; 128 KB leave room for changes. The one is
-   zk_first_layout, the only function that recurses: each level of its search has a copy of the table and
-   takes 768 bytes, beside 73 KB. A level halves a range of a row or leaves it one shape, so that there are
-   at most 649, which is 571 KB; the deepest search that was measured used 419 KB. 1 MB leaves room for
-   changes.
+   may run in different threads at once, also over one block. Nothing is proved about the stack: where
+   it was measured (with the kit before the port to today's Rattle) zk_settle, zk_narrow, zk_least and
+   zk_greatest used 62 to 66 KB of it (most of it a list of what can forbid a row, and an outline of the
+   block), zk_check_placement and zk_point_allowed 13 KB, zk_fill 17 KB, the others but one less than 1
+   KB; 128 KB leave room for changes. The one is zk_first_layout, the only function that recurses: each
+   level of its search has a copy of the table and takes 768 bytes, beside 73 KB. A level halves a range
+   of a row or leaves it one shape, so that there are at most 649, which is 571 KB; the deepest search
+   that was measured used 419 KB. 1 MB leaves room for changes.
 
    Time: every call ends, but there is no limit to it that helps in practice, and a call cannot be
    interrupted. Ordinary sheets settle in microseconds to milliseconds. Beside document 000's filtering in

@@ -1,18 +1,16 @@
 -- The refusals in their order: what is left of `refusal` from a check on (`from2` to `from8`), and what the code's answer to the first check
--- that is left says of the refusal; and a call's refusal, tested and handed on. Assumes nothing.
+-- that is left says of the refusal. Assumes nothing.
 use mathlib.Core.Path.{◌≡◌, refl, sym, ap, ◌∙◌}
 use mathlib.Core.Bool.{Bool, true, false}
 use mathlib.Core.List.{List}
-use Prim.Native.Nat.{ℕ, zero, suc, ◌^◌, ◌<◌}
-use native.Mathlib.Nat.{not-suc-le-zero}
-use lib.IntN.{ℤ, pos}
-use lib.Signed.{lt_z, mag}
-use mir.Syntax.{w64}
-use mir.Val.{to_z, of_z}
-use Rattle.integers.proofs.Ints.{ints}
-use Rattle.words.proofs.Reading.{read_back}
+use Prim.Native.Nat.{ℕ, suc}
+use lib.IntN.{ℤ}
 use Rattle.sheet.specs.Refusal.{◌when◌, ◌else◌, bad_head, bad_counts, bad_block_length, bad_table_length, bad_box, bad_rule, bad_row, refusal}
+use Rattle.sheet.specs.Refusal.{ground}
+use Rattle.sheet.specs.Answer.{answer}
+use Rattle.sheet.proofs.Answer.{answered}
 use Rattle.sheet.proofs.Accepted.{zero-when}
+use Rattle.std.specs.Prelude.{Ok, Err}
 
 -- ---- the checks of a sheet, from one on
 module _ (block : List ℤ) (t : List ℤ) where
@@ -56,32 +54,18 @@ applies-last n e = rw e
 
 -- a refusal x of which check b is left, with others or as the last; r is the code's answer to b
 module _ {x : ℕ} {r b : Bool} where
-  pub refused-first : {n : ℕ} (h : ℕ) → x ≡ (suc n when b else h) → r ≡ b → r ≡ true → pos (suc n) ≡ pos x
-  refused-first {n} h q e t = ap pos (sym (q ∙ applies n h (sym e ∙ t)))
+  pub refused-first : (n h : ℕ) → x ≡ (suc n when b else h) → r ≡ b → r ≡ true → Err (ground n) ≡ answer x (tt {0})
+  unfolding answer
+  refused-first n h q e t = ap (λ (m : ℕ). answer m (tt {0})) (sym (q ∙ applies n h (sym e ∙ t)))
 
-  pub refused-last : {n : ℕ} → x ≡ (n when b) → r ≡ b → r ≡ true → pos n ≡ pos x
-  refused-last {n} q e t = ap pos (sym (q ∙ applies-last n (sym e ∙ t)))
+  pub refused-last : (n : ℕ) → x ≡ (suc n when b) → r ≡ b → r ≡ true → Err (ground n) ≡ answer x (tt {0})
+  unfolding answer
+  refused-last n q e t = ap (λ (m : ℕ). answer m (tt {0})) (sym (q ∙ applies-last (suc n) (sym e ∙ t)))
 
-  pub passed-last : (n : ℕ) → x ≡ (n when b) → r ≡ b → r ≡ false → pos 0 ≡ pos x
-  passed-last n q e f = ap pos (sym (q ∙ zero-when n (sym e ∙ f)))
+  pub passed-last : (n : ℕ) → x ≡ (n when b) → r ≡ b → r ≡ false → Ok (tt {0}) ≡ answer x (tt {0})
+  passed-last n q e f = sym (answered (tt {0}) (q ∙ zero-when n (sym e ∙ f)))
 
 -- ---- a refusal g, and one check more
-else-first : {g : ℕ} (h : ℕ) → 0 < g → (g else h) ≡ g
-unfolding ◌else◌
-else-first {g = zero} h l = absurd (not-suc-le-zero l)
-else-first {g = suc n} h l = refl
-
 pub else-second : {g : ℕ} (h : ℕ) → g ≡ 0 → (g else h) ≡ h
 unfolding ◌else◌
 else-second h e = ap (λ (n : ℕ). n else h) e
-
--- a call's refusal, as the code tests it and hands it on
-module _ {z : ℤ} {g : ℕ} (e : z ≡ pos g) (f : mag z < 2 ^ 63) where
-  pub refused : lt_z (pos 0) (to_z w64 (of_z w64 z)) ≡ true → 0 < g
-  refused l = let q = read_back e f in omega ints
-
-  pub refused-on : (h : ℕ) → lt_z (pos 0) (to_z w64 (of_z w64 z)) ≡ true → to_z w64 (of_z w64 z) ≡ pos (g else h)
-  refused-on h l = read_back e f ∙ ap pos (sym (else-first h (refused l)))
-
-  pub accepted : lt_z (pos 0) (to_z w64 (of_z w64 z)) ≡ false → g ≡ 0
-  accepted l = let q = read_back e f in omega ints

@@ -1,4 +1,5 @@
 pub mod Turns
+pub mod Words
 pub mod Opening
 pub mod Tests
 pub mod Marks

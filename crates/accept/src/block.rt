@@ -41,15 +41,7 @@ pub(crate) fn bad_box(block: &[i64]) -> bool
     requires { Head block.now }
     ensures { result ≡ bad_box block.now }
 {
-    let n = words::boxes_of(block);
-    let mut b = 0;
-    while b < n {
-        if !valid_box(block, words::box_place(block, b)) {
-            return true;
-        }
-        b += 1;
-    }
-    false
+    !(0..words::boxes_of(block)).all(|b| valid_box(block, words::box_place(block, b)))
 }
 
 fn valid_box(block: &[i64], b: Place) -> bool
@@ -63,15 +55,7 @@ fn valid_extents(block: &[i64], b: Place) -> bool
     requires { BoxPlace block.now b }
     ensures { result ≡ all_below (dims block.now) (valid_extent block.now b.number) }
 {
-    let k = words::dims_of(block);
-    let mut d = 0;
-    while d < k {
-        if !valid_extent(block, b, d) {
-            return false;
-        }
-        d += 1;
-    }
-    true
+    (0..words::dims_of(block)).all(|d| valid_extent(block, b, d))
 }
 
 fn valid_extent(block: &[i64], b: Place, d: usize) -> bool
@@ -89,15 +73,7 @@ pub(crate) fn bad_rule(block: &[i64], table: &[i64]) -> bool
     ensures { result ≡ bad_rule block.now table.now }
 {
     let n = words::rows_of(block, table);
-    let m = words::rules_of(block);
-    let mut r = 0;
-    while r < m {
-        if !valid_rule(block, words::rule_place(block, r), n) {
-            return true;
-        }
-        r += 1;
-    }
-    false
+    !(0..words::rules_of(block)).all(|r| valid_rule(block, words::rule_place(block, r), n))
 }
 
 // Whether rule r is valid in a sheet of n rows.
@@ -121,15 +97,7 @@ fn valid_rooms(block: &[i64], r: Place) -> bool
     requires { SetRule block.now r }
     ensures { result ≡ all_below (dims block.now) (valid_ends block.now r.number) }
 {
-    let k = words::dims_of(block);
-    let mut d = 0;
-    while d < k {
-        if !valid_ends(block, r, d) {
-            return false;
-        }
-        d += 1;
-    }
-    true
+    (0..words::dims_of(block)).all(|d| valid_ends(block, r, d))
 }
 
 // Whether rule r has a room in dimension d.
@@ -150,14 +118,13 @@ fn valid_ends(block: &[i64], r: Place, d: usize) -> bool
     if words::names_dim(block, r, d) {
         return valid_clearance(block, r, d);
     }
-    range::is_equal(words::room_low(block, r, d), 0)
-        && range::is_equal(words::room_high(block, r, d), 0)
+    words::room_low(block, r, d) == 0 && words::room_high(block, r, d) == 0
 }
 
 fn valid_clearance(block: &[i64], r: Place, d: usize) -> bool
     requires { RulePlace block.now r × (d < dims block.now) }
     ensures { result ≡ valid_clearance block.now r.number d }
 {
-    let high = words::room_high(block, r, d);
-    words::is_within(words::clearance_of(block, r, d), 0, 1000) && range::is_equal(high, 0)
+    words::is_within(words::clearance_of(block, r, d), 0, 1000)
+        && words::room_high(block, r, d) == 0
 }

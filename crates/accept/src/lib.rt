@@ -1,11 +1,12 @@
-// Document 01, "Grounds for turning a sheet away, in checking order": the first of the checks 2 to 12 that applies to a call, or 0,
+// Document 01, "Grounds for turning a sheet away, in checking order": the first of the checks 2 to 12 that applies to a call, if one does,
 // on any words of any length; and the row slice. Each test of crates/sheet/specs/Refusal.antt is a function of its name, and the
 // tests run in their order: what one has passed the next leans on.
 #![tactic(auto)]
 
-ghost use Rattle.std.specs.Prelude.{◌≡◌, false, List, ◌+◌, ◌*◌, ℤ, pos, length};
+ghost use Rattle.std.specs.Prelude.{◌≡◌, false, List, ◌+◌, ◌*◌, ℤ, length};
 ghost use Rattle.sheet.specs.Refusal.{no_such_row, no_such_shape, no_such_dim};
 ghost use Rattle.sheet.specs.Refusal.{refusal, refusal_row, refusal_shape, refusal_dim, refusal_placement, row_slice, row_start};
+ghost use Rattle.sheet.specs.Answer.{answer};
 ghost use Rattle.sheet.specs.Accepted.{Head, Rows, Table};
 
 mod block; // block.rt: checks 2 to 4, 6 and 7
@@ -13,33 +14,35 @@ mod range; // range.rt: words and ranges
 pub mod relation; // relation.rt: two rows and a dimension of a placement
 mod table; // table.rt: checks 5, 8 and 12
 
+use sheet::Refusal;
+
 // ---- a sheet
 
-pub fn refusal(block: &[i64], table: &[i64]) -> i64
-    ensures { result ≡ pos (refusal block.now table.now) }
+pub fn check(block: &[i64], table: &[i64]) -> Result<(), Refusal>
+    ensures { result ≡ answer (refusal block.now table.now) tt }
 {
     if block::bad_head(block) {
-        return 2;
+        return Err(Refusal::BadHead);
     }
     if block::bad_counts(block) {
-        return 3;
+        return Err(Refusal::BadCounts);
     }
     if block::bad_block_length(block) {
-        return 4;
+        return Err(Refusal::BadBlockLength);
     }
     if table::bad_table_length(block, table) {
-        return 5;
+        return Err(Refusal::BadTableLength);
     }
     if block::bad_box(block) {
-        return 6;
+        return Err(Refusal::BadBox);
     }
     if block::bad_rule(block, table) {
-        return 7;
+        return Err(Refusal::BadRule);
     }
     if table::bad_row(block, table) {
-        return 8;
+        return Err(Refusal::BadRow);
     }
-    0
+    Ok(())
 }
 
 // ---- 9 to 11: what is asked about
@@ -75,56 +78,50 @@ fn no_such_dim(block: &[i64], dim: i64) -> bool
     !range::is_index(dim, words::axes_of(block))
 }
 
-pub fn row_refusal(block: &[i64], table: &[i64], row: i64) -> i64
-    ensures { result ≡ pos (refusal_row block.now table.now row) }
+pub fn check_row(block: &[i64], table: &[i64], row: i64) -> Result<(), Refusal>
+    ensures { result ≡ answer (refusal_row block.now table.now row) tt }
 {
-    let g = refusal(block, table);
-    if g > 0 {
-        return g;
-    }
+    check(block, table)?;
     if no_such_row(block, table, row) {
-        return 9;
+        return Err(Refusal::NoSuchRow);
     }
-    0
+    Ok(())
 }
 
-pub fn shape_refusal(block: &[i64], table: &[i64], row: i64, shape: i64) -> i64
-    ensures { result ≡ pos (refusal_shape block.now table.now row shape) }
+pub fn check_shape(block: &[i64], table: &[i64], row: i64, shape: i64) -> Result<(), Refusal>
+    ensures { result ≡ answer (refusal_shape block.now table.now row shape) tt }
 {
-    let g = row_refusal(block, table, row);
-    if g > 0 {
-        return g;
-    }
+    check_row(block, table, row)?;
     if no_such_shape(block, table, row, shape) {
-        return 10;
+        return Err(Refusal::NoSuchShape);
     }
-    0
+    Ok(())
 }
 
-pub fn dim_refusal(block: &[i64], table: &[i64], row: i64, shape: i64, dim: i64) -> i64
-    ensures { result ≡ pos (refusal_dim block.now table.now row shape dim) }
+pub fn check_dim(
+    block: &[i64],
+    table: &[i64],
+    row: i64,
+    shape: i64,
+    dim: i64,
+) -> Result<(), Refusal>
+    ensures { result ≡ answer (refusal_dim block.now table.now row shape dim) tt }
 {
-    let g = shape_refusal(block, table, row, shape);
-    if g > 0 {
-        return g;
-    }
+    check_shape(block, table, row, shape)?;
     if no_such_dim(block, dim) {
-        return 11;
+        return Err(Refusal::NoSuchDim);
     }
-    0
+    Ok(())
 }
 
-pub fn placement_refusal(block: &[i64], table: &[i64]) -> i64
-    ensures { result ≡ pos (refusal_placement block.now table.now) }
+pub fn check_placement(block: &[i64], table: &[i64]) -> Result<(), Refusal>
+    ensures { result ≡ answer (refusal_placement block.now table.now) tt }
 {
-    let g = refusal(block, table);
-    if g > 0 {
-        return g;
-    }
+    check(block, table)?;
     if table::not_fixed(block, table) {
-        return 12;
+        return Err(Refusal::NotFixed);
     }
-    0
+    Ok(())
 }
 
 // ---- the row slice
@@ -140,7 +137,7 @@ pub fn row_span(block: &[i64], table: &[i64], row: i64) -> Span
     ensures { (result.start ≡ row_start block.now table.now row)
         × (result.length ≡ length (row_slice block.now table.now row)) }
 {
-    if row_refusal(block, table, row) > 0 {
+    if check_row(block, table, row).is_err() {
         return Span {
             start: 0,
             length: 0,

@@ -4,30 +4,18 @@ ghost use Rattle.std.specs.Int.Signed.{le_z, lt_z};
 ghost use Rattle.integers.specs.Integer.{eq_z, within};
 ghost use Rattle.accept.specs.Parts.{valid_range};
 
-pub(crate) fn is_equal(a: i64, b: i64) -> bool
-    ensures { result ≡ eq_z a b }
-{
-    a == b
-}
-
 // Whether the word is one of the numbers 0 to n − 1.
 pub(crate) fn is_index(z: i64, n: usize) -> bool
     requires { n ≤ 32 }
     ensures { result ≡ (le_z (pos 0) z && lt_z z (pos n)) }
 {
-    0 <= z && z < n as i64
+    (0..n as i64).contains(&z)
 }
 
 pub(crate) fn valid_range(a: i64, b: i64) -> bool
     ensures { result ≡ valid_range a b }
 {
-    if !words::is_within(a, -1000000, 1000000) {
-        return false;
-    }
-    if !words::is_within(b, -1000000, 1000000) {
-        return false;
-    }
-    a <= b
+    words::is_within(a, -1000000, 1000000) && words::is_within(b, -1000000, 1000000) && a <= b
 }
 
 // Whether the word is a set of some of the numbers 1 to n.

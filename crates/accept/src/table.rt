@@ -31,16 +31,13 @@ pub(crate) fn bad_row(block: &[i64], table: &[i64]) -> bool
     requires { Head block.now × Rows block.now table.now × (bad_box block.now ≡ false) }
     ensures { result ≡ bad_row block.now table.now }
 {
-    let n = words::rows_of(block, table);
     let flags = boxed_shapes(block);
-    let mut i = 0;
-    while i < n {
-        if !valid_row(block, table, words::row_place(block, table, i + 1), flags) {
-            return true;
-        }
-        i += 1;
-    }
-    false
+    !(0..words::rows_of(block, table)).all(|m| valid_row(
+        block,
+        table,
+        words::row_place(block, table, m + 1),
+        flags,
+    ))
 }
 
 // For each shape, whether it has a box.
@@ -48,13 +45,9 @@ fn boxed_shapes(block: &[i64]) -> [bool; 33]
     requires { Head block.now × (bad_box block.now ≡ false) }
     ensures { Flags block.now result }
 {
-    let n = words::boxes_of(block);
     let mut flags = [false; 33];
-    let mut b = 0;
-    while b < n {
-        let s = words::shape_number(block, words::box_place(block, b));
-        flags[s] = true;
-        b += 1;
+    for b in 0..words::boxes_of(block) {
+        flags[words::shape_number(block, words::box_place(block, b))] = true;
     }
     flags
 }
@@ -75,15 +68,13 @@ fn shapes_boxed(block: &[i64], table: &[i64], i: Place, flags: [bool; 33]) -> bo
     ensures { result ≡ all_up_to 32 (shape_boxed block.now table.now i.number) }
 {
     let set = words::shapes_of(block, table, i);
-    let mut s = u32::trailing_zeros(set) as usize;
-    while s < 32 {
+    for s in set.trailing_zeros() as usize..32 {
         if words::is_below(set, s) {
             return true;
         }
         if !shape_boxed(block, table, i, flags, s + 1) {
             return false;
         }
-        s += 1;
     }
     true
 }
@@ -100,18 +91,12 @@ fn valid_ranges(block: &[i64], table: &[i64], i: Place) -> bool
     ensures { result ≡ all_below (axes block.now)
         (valid_row_range block.now table.now i.number) }
 {
-    let k = words::axes_of(block);
-    let mut d = 0;
-    while d < k {
-        if !range::valid_range(
+    (0..words::axes_of(block)).all(|d| {
+        range::valid_range(
             words::low_of(block, table, i, d),
             words::high_of(block, table, i, d),
-        ) {
-            return false;
-        }
-        d += 1;
-    }
-    true
+        )
+    })
 }
 
 // ---- 12: a fixed placement
@@ -120,15 +105,11 @@ pub(crate) fn not_fixed(block: &[i64], table: &[i64]) -> bool
     requires { Head block.now × Table block.now table.now }
     ensures { result ≡ not_fixed block.now table.now }
 {
-    let n = words::rows_of(block, table);
-    let mut i = 0;
-    while i < n {
-        if !row_fixed(block, table, words::row_place(block, table, i + 1)) {
-            return true;
-        }
-        i += 1;
-    }
-    false
+    !(0..words::rows_of(block, table)).all(|m| row_fixed(
+        block,
+        table,
+        words::row_place(block, table, m + 1),
+    ))
 }
 
 fn row_fixed(block: &[i64], table: &[i64], i: Place) -> bool
@@ -143,16 +124,6 @@ fn ranges_fixed(block: &[i64], table: &[i64], i: Place) -> bool
     ensures { result ≡ all_below (axes block.now)
         (fixed_range block.now table.now i.number) }
 {
-    let k = words::axes_of(block);
-    let mut d = 0;
-    while d < k {
-        if !range::is_equal(
-            words::low_of(block, table, i, d),
-            words::high_of(block, table, i, d),
-        ) {
-            return false;
-        }
-        d += 1;
-    }
-    true
+    (0..words::axes_of(block)).all(|d| words::low_of(block, table, i, d)
+        == words::high_of(block, table, i, d))
 }

@@ -1,19 +1,15 @@
--- What a search came to, as the extreme coordinate of the free points: some (`sighted-there`) or none (`sighted-nowhere`). Assumes nothing.
-use mathlib.Core.Path.{◌≡◌, refl}
-use mathlib.Core.Bool.{Bool, true, false}
+-- What a search came to, as the extreme coordinate of the free points: that of a foremost one (`foremost-there`), or none. Assumes nothing.
+use mathlib.Core.Path.{refl}
+use mathlib.Core.Bool.{Bool}
 use mathlib.Core.List.{List}
-use mathlib.Core.Option.{none, some}
+use mathlib.Core.Option.{some}
 use Prim.Native.Nat.{ℕ}
 use lib.IntN.{ℤ}
 use Rattle.integers.specs.Words.{word}
-use Rattle.sheet.specs.Bounds.{Extreme, nowhere, there}
+use Rattle.sheet.specs.Bounds.{Extreme, there}
 use Rattle.points.specs.declared.Area.{Area}
-use Rattle.bounds.specs.declared.Spot.{Spot}
-use Rattle.bounds.specs.Search.{Ahead, free_in, Sighted}
+use Rattle.bounds.specs.Search.{Ahead, free_in, Foremost}
 
-module _ {flip : Bool} {block : List ℤ} {t : List ℤ} {i s : ℕ} {a : Area} {d : ℕ} {x : Spot} (sight : Sighted flip block t i s a d x) where
-  pub sighted-there : x.found ≡ true → Extreme (Ahead flip) (free_in block t i s a) d (some (word x.point d))
-  sighted-there e = there x.point (sight.free e) refl (sight.first e)
-
-  pub sighted-nowhere : x.found ≡ false → Extreme (Ahead flip) (free_in block t i s a) d none
-  sighted-nowhere e = nowhere (sight.none e)
+pub foremost-there : {flip : Bool} {block : List ℤ} {t : List ℤ} {i s : ℕ} {a : Area} {d : ℕ} {p : List ℤ} → Foremost flip block t i s a d p
+    → Extreme (Ahead flip) (free_in block t i s a) d (some (word p d))
+foremost-there {p = p} x = there p x.free refl x.first

@@ -2,9 +2,9 @@
 -- extreme coordinate (`swept-found`), a region of forbidden points is jumped over (`swept-on`), and an exhausted sweep means that
 -- every point of the area is forbidden (`swept_none`). One set of laws for both ends, over flip. Assumes nothing.
 use mathlib.Core.Path.{◌≡◌, refl, sym, ap, ◌∙◌, subst}
-use mathlib.Core.Bool.{Bool, true, false, not}
+use mathlib.Core.Bool.{Bool, true, false, not, cond}
 use mathlib.Core.List.{List}
-use Prim.Native.Nat.{ℕ, ◌≤◌, ◌<◌}
+use Prim.Native.Nat.{ℕ, suc, ◌≤◌, ◌<◌}
 use native.Mathlib.Omega.{arith}
 use lib.ListN.{length}
 use lib.IntN.{ℤ}
@@ -24,7 +24,8 @@ use Rattle.sweep.specs.Theorem.{Step, Visited, start, onward, points_after, Swee
 use Rattle.sweep.proofs.Interface.{rotation-range, rotation-first, sweep-theorem, least-turned, candidate-near}
 use Rattle.sweep.proofs.Mirror.{TurnedBox, near-start, near-end, box-in, box_out, box-filled, turned-turned, reverses-turn}
 use Rattle.sweep.proofs.Points.{near_of}
-use Rattle.bounds.specs.Search.{Ahead, free_in, Sighted}
+use Rattle.nearby.specs.declared.Nearby.{Nearby}
+use Rattle.bounds.specs.Search.{Ahead, free_in, Foremost, Searching}
 
 -- ---- areas as boxes
 area-box : {k : ℕ} {a : Area} (p : List ℤ) → in_area k a p ≡ true → InBox k a.low a.high p
@@ -45,9 +46,9 @@ abbrev pub Swept : List ℤ → List ℤ → ℕ → ℕ → ℕ → Bool → Li
 Swept block t i s d flip first end w =
     Visited (axes block) (rotation (axes block) d) first end (λ q. forbidden block t i s (turned flip q) ≡ true) w
 
--- how many points come after its candidate
+-- how many points are left, its candidate and those after it
 abbrev pub points_left : List ℤ → ℕ → List ℤ → List ℤ → Sweep → ℕ
-points_left block d first end w = points_after (rotation (axes block) d) first end (axes block) w.candidate
+points_left block d first end w = cond w.live (suc (points_after (rotation (axes block) d) first end (axes block) w.candidate)) 0
 
 -- what is swept for dimension d: the area a, which has a point, from first to end when it is turned
 pub record Task (block : List ℤ) (d : ℕ) (flip : Bool) (a : Area) (first end : List ℤ) : Type 0 where
@@ -58,6 +59,21 @@ pub record Task (block : List ℤ) (d : ℕ) (flip : Bool) (a : Area) (first end
   pub turns : TurnedBox flip a.low a.high first end
   pub first_long : length first ≡ coordinates
   pub end_long : length end ≡ coordinates
+
+-- what a search leans on, with the ends of its turned area
+pub task-of : {block t o list known first end : List ℤ} {x : Nearby} {d : ℕ} {a : Area} {flip : Bool} → Searching block t o list known x d a
+    → first ≡ turned_end flip a.high a.low → end ≡ turned_end flip a.low a.high → length first ≡ coordinates → length end ≡ coordinates
+    → Task block d flip a first end
+task-of s f e m n =
+    record {
+      few = s.subject.accepted.head.few_axes;
+      below = s.below;
+      small = s.small;
+      filled = s.filled;
+      turns = record { start = f; end = e };
+      first_long = m;
+      end_long = n;
+    }
 
 -- the sweep meets a region: its candidate stands for the point p, and x is an area around p, all of whose points are forbidden, that ends at last
 -- when it is turned
@@ -128,28 +144,19 @@ module _ {block : List ℤ} {d : ℕ} {flip : Bool} {a : Area} {first end : List
         swept-in =
             subst (λ (q : List ℤ). in_area (axes block) a q ≡ true) (sym point) (box-area _ (box_out task.turns (theorem.inside r live)))
 
-        pub swept-found : forbidden block t i s p ≡ false → Sighted flip block t i s a d (record { found = true; point = p })
+        pub swept-found : forbidden block t i s p ≡ false → Foremost flip block t i s a d p
         swept-found e =
             record {
-              free = λ _. free-by p swept-in e;
+              free = free-by p swept-in e;
               first =
-                  λ _ q f.
+                  λ q f.
                   let g = free-parts q f in
                   turn-ahead flip (word p d) (word q d)
                   (least-turned theorem r live (rotation-first task.few task.below) flip point q (in-range q g.0) (not-bad q g.1));
-              none = λ u. absurd (clash refl u);
             }
 
-      pub swept_none : w.live ≡ false → (q : List ℤ) → Sighted flip block t i s a d (record { found = false; point = q })
-      swept_none l q =
-          record {
-            free = λ u. absurd (clash u refl);
-            first = λ u. absurd (clash u refl);
-            none =
-                λ _ p e.
-                let g = free-parts p e in
-                not-bad p g.1 (theorem.exhausted r l (turned flip p) (in-range p g.0));
-          }
+      pub swept_none : w.live ≡ false → (p : List ℤ) → free_in block t i s a p ≡ true → ⊥
+      swept_none l p e = let g = free-parts p e in not-bad p g.1 (theorem.exhausted r l (turned flip p) (in-range p g.0))
 
     -- ---- the jump over the region that the sweep met
     module _ {w next : Sweep} {p : List ℤ} {x : Area} {last : List ℤ} (met : Encounter block t i s d flip first end w p x last)
@@ -172,5 +179,12 @@ module _ {block : List ℤ} {d : ℕ} {flip : Bool} {a : Area} {first end : List
       pub swept-on : Swept block t i s d flip first end next
       swept-on = onward met.swept step
 
-      pub swept-falls : next.live ≡ true → points_left block d first end next < points_left block d first end w
-      swept-falls l = theorem.falls met.swept step l
+      abbrev after : Sweep → ℕ
+      after v = points_after (rotation (axes block) d) first end (axes block) v.candidate
+
+      fewer : (b : Bool) → next.live ≡ b → cond b (suc (after next)) 0 < suc (after w)
+      fewer true l = omega (arith, theorem.falls met.swept step l)
+      fewer false l = omega arith
+
+      pub swept-falls : points_left block d first end next < points_left block d first end w
+      swept-falls = rw met.live (fewer next.live refl)

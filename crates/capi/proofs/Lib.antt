@@ -1,2 +1,3 @@
 pub mod Demand
 pub mod Request
+pub mod Numbers

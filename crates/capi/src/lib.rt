@@ -2,7 +2,7 @@
 // -1 for the other, and otherwise the refusal's number (specs/Findings.antt). A slice is a pointer and a length in C.
 #![tactic(auto)]
 
-ghost use Rattle.std.specs.Prelude.{◌≡◌, [], ◌∷◌, pos, length};
+ghost use Rattle.std.specs.Prelude.{◌≡◌, ◌^◌, ◌<◌, IfOk, [], ◌∷◌, pos, length};
 ghost use Rattle.integers.specs.Integer.{nat};
 ghost use Rattle.sheet.specs.Allowed.{allowed};
 ghost use Rattle.sheet.specs.Placement.{good};
@@ -10,16 +10,14 @@ ghost use Rattle.sheet.specs.Bounds.{least_of, greatest_of};
 ghost use Rattle.sheet.specs.Narrow.{narrow_of};
 ghost use Rattle.sheet.specs.Settle.{settle_of};
 ghost use Rattle.sheet.specs.FirstLayout.{first_layout_of};
-ghost use Rattle.sheet.specs.Relation.{relation_number, relation_of};
+ghost use Rattle.sheet.specs.Relation.{relation_of};
 ghost use Rattle.sheet.specs.Fill.{rule_asked, room_cells, covered_cells, permille};
 ghost use Rattle.sheet.specs.Refusal.{refusal, refusal_row, refusal_shape, refusal_dim, refusal_placement, refusal_relation, refusal_fill};
 ghost use Rattle.sheet.specs.Refusal.{refusal_layout, row_slice, row_start};
-ghost use Rattle.sheet.specs.Answer.{point_answer, verdict_answer, bound_answer, narrow_answer, settle_answer, standing_answer, fill_answer};
-ghost use Rattle.sheet.specs.Answer.{layout_answer, table_after};
-ghost use Rattle.capi.specs.Findings.{point_finding, verdict_finding, no_bound, bound_finding, narrow_finding, settle_finding};
-ghost use Rattle.capi.specs.Findings.{standing_finding, share_finding, layout_finding};
+ghost use Rattle.sheet.specs.Answer.{answer, as_option, is_found, table_after};
+ghost use Rattle.capi.specs.Findings.{finding, refusal_finding, no_bound, bound_finding, standing_finding, share_finding};
 
-use sheet::{Allen, Bound, Layout, Narrowing, PointTest, Settling, Share, Standing, Verdict};
+use sheet::{Allen, Refusal, Share};
 
 // ---- results in C's layout
 
@@ -58,110 +56,68 @@ pub struct ShareFinding {
 
 // ---- findings as words
 
-fn point_finding(x: PointTest) -> i64
-    ensures { result ≡ point_finding x }
+fn finding(x: Result<bool, Refusal>) -> i64
+    ensures { result ≡ finding x }
 {
     match x {
-        PointTest::Allowed => 0,
-        PointTest::NotAllowed => -1,
-        PointTest::Refused(g) => g,
+        Ok(true) => 0,
+        Ok(false) => -1,
+        Err(g) => i64::from(g),
     }
 }
 
-fn verdict_finding(x: Verdict) -> i64
-    ensures { result ≡ verdict_finding x }
+fn refusal_finding(x: Result<(), Refusal>) -> i64
+    ensures { result ≡ refusal_finding x }
 {
     match x {
-        Verdict::Good => 0,
-        Verdict::NotGood => -1,
-        Verdict::Refused(g) => g,
+        Ok(()) => 0,
+        Err(g) => i64::from(g),
     }
 }
 
 fn no_bound(finding: i64) -> BoundFinding
     ensures { result ≡ no_bound finding }
 {
-    BoundFinding {
-        finding: finding,
-        value: 0,
-    }
+    BoundFinding { finding, value: 0 }
 }
 
-fn bound_finding(x: Bound) -> BoundFinding
+fn bound_finding(x: Result<Option<i64>, Refusal>) -> BoundFinding
     ensures { result ≡ bound_finding x }
 {
     match x {
-        Bound::At(z) => BoundFinding {
-            finding: 0,
-            value: z,
-        },
-        Bound::Nothing => no_bound(-1),
-        Bound::Refused(g) => no_bound(g),
+        Ok(Some(value)) => BoundFinding { finding: 0, value },
+        Ok(None) => no_bound(-1),
+        Err(g) => no_bound(i64::from(g)),
     }
 }
 
-fn narrow_finding(x: Narrowing) -> i64
-    ensures { result ≡ narrow_finding x }
-{
-    match x {
-        Narrowing::Narrowed => 0,
-        Narrowing::NoPlace => -1,
-        Narrowing::Refused(g) => g,
-    }
-}
-
-fn settle_finding(x: Settling) -> i64
-    ensures { result ≡ settle_finding x }
-{
-    match x {
-        Settling::Settled => 0,
-        Settling::NoLayout => -1,
-        Settling::Refused(g) => g,
-    }
-}
-
-fn layout_finding(x: Layout) -> i64
-    ensures { result ≡ layout_finding x }
-{
-    match x {
-        Layout::Placed => 0,
-        Layout::Nothing => -1,
-        Layout::Refused(g) => g,
-    }
-}
-
-fn relation_number(x: Allen) -> i64
-    ensures { result ≡ pos (relation_number x) }
-{
-    x as i64
-}
-
-fn standing_finding(x: Standing) -> StandingFinding
+fn standing_finding(x: Result<Allen, Refusal>) -> StandingFinding
     ensures { result ≡ standing_finding x }
 {
     match x {
-        Standing::Bears(y) => StandingFinding {
+        Ok(y) => StandingFinding {
             finding: 0,
-            relation: relation_number(y),
+            relation: i64::from(y),
         },
-        Standing::Refused(g) => StandingFinding {
-            finding: g,
+        Err(g) => StandingFinding {
+            finding: i64::from(g),
             relation: 0,
         },
     }
 }
 
-fn share_finding(x: Share) -> ShareFinding
+fn share_finding(x: Result<Share, Refusal>) -> ShareFinding
+    requires { IfOk x (λ s. (s.cells < 2 ^ 63) × (s.permille < 2 ^ 63)) }
     ensures { result ≡ share_finding x }
 {
     match x {
-        Share::Of(c, p) => ShareFinding {
+        Ok(s) => ShareFinding {
             finding: 0,
-            cells: c,
-            permille: p,
+            cells: s.cells as i64,
+            permille: s.permille as i64,
         },
-        Share::Refused(g) => ShareFinding {
-            finding: g,
+        Err(g) => ShareFinding {
+            finding: i64::from(g),
             cells: 0,
             permille: 0,
         },
@@ -174,14 +130,14 @@ fn share_finding(x: Share) -> ShareFinding
 pub extern "C" fn zk_refusal(block: &[i64], table: &[i64]) -> i64
     ensures { result ≡ pos (refusal block.now table.now) }
 {
-    accept::refusal(block, table)
+    refusal_finding(accept::check(block, table))
 }
 
 #[unsafe(no_mangle)]
 pub extern "C" fn zk_row_refusal(block: &[i64], table: &[i64], row: i64) -> i64
     ensures { result ≡ pos (refusal_row block.now table.now row) }
 {
-    accept::row_refusal(block, table, row)
+    refusal_finding(accept::check_row(block, table, row))
 }
 
 #[unsafe(no_mangle)]
@@ -195,18 +151,18 @@ pub extern "C" fn zk_point_allowed(
     p2: i64,
     p3: i64,
 ) -> i64
-    ensures { result ≡ point_finding (point_answer (refusal_shape block.now table.now row shape)
+    ensures { result ≡ finding (answer (refusal_shape block.now table.now row shape)
         (allowed block.now table.now (nat row) (nat shape) (p0 ∷ p1 ∷ p2 ∷ p3 ∷ []))) }
 {
-    point_finding(placement::point_allowed(block, table, row, shape, [p0, p1, p2, p3]))
+    finding(placement::point_allowed(block, table, row, shape, [p0, p1, p2, p3]))
 }
 
 #[unsafe(no_mangle)]
 pub extern "C" fn zk_check_placement(block: &[i64], table: &[i64]) -> i64
-    ensures { result ≡ verdict_finding (verdict_answer (refusal_placement block.now table.now)
+    ensures { result ≡ finding (answer (refusal_placement block.now table.now)
         (good block.now table.now)) }
 {
-    verdict_finding(placement::check_placement(block, table))
+    finding(placement::check_placement(block, table))
 }
 
 #[unsafe(no_mangle)]
@@ -217,8 +173,8 @@ pub extern "C" fn zk_least(
     shape: i64,
     dimension: i64,
 ) -> BoundFinding
-    ensures { result ≡ bound_finding (bound_answer (refusal_dim block.now table.now row shape dimension)
-        (least_of block.now table.now (nat row) (nat shape) (nat dimension))) }
+    ensures { result ≡ bound_finding (answer (refusal_dim block.now table.now row shape dimension)
+        (as_option (least_of block.now table.now (nat row) (nat shape) (nat dimension)))) }
 {
     bound_finding(bounds::least(block, table, row, shape, dimension))
 }
@@ -231,40 +187,40 @@ pub extern "C" fn zk_greatest(
     shape: i64,
     dimension: i64,
 ) -> BoundFinding
-    ensures { result ≡ bound_finding (bound_answer (refusal_dim block.now table.now row shape dimension)
-        (greatest_of block.now table.now (nat row) (nat shape) (nat dimension))) }
+    ensures { result ≡ bound_finding (answer (refusal_dim block.now table.now row shape dimension)
+        (as_option (greatest_of block.now table.now (nat row) (nat shape) (nat dimension)))) }
 {
     bound_finding(bounds::greatest(block, table, row, shape, dimension))
 }
 
 #[unsafe(no_mangle)]
 pub extern "C" fn zk_narrow(block: &[i64], table: &mut [i64], row: i64) -> i64
-    ensures { (result ≡ narrow_finding (narrow_answer (refusal_row block.now table.old row)
-        (narrow_of block.now table.old (nat row))))
+    ensures { (result ≡ finding (answer (refusal_row block.now table.old row)
+        (is_found (narrow_of block.now table.old (nat row)))))
         × (table.new ≡ table_after (refusal_row block.now table.old row) table.old
         (narrow_of block.now table.old (nat row))) }
 {
-    narrow_finding(narrow::narrow(block, table, row))
+    finding(narrow::narrow(block, table, row))
 }
 
 #[unsafe(no_mangle)]
 pub extern "C" fn zk_settle(block: &[i64], table: &mut [i64]) -> i64
-    ensures { (result ≡ settle_finding (settle_answer (refusal block.now table.old)
-        (settle_of block.now table.old)))
+    ensures { (result ≡ finding (answer (refusal block.now table.old)
+        (is_found (settle_of block.now table.old))))
         × (table.new ≡ table_after (refusal block.now table.old) table.old
         (settle_of block.now table.old)) }
 {
-    settle_finding(settle::settle(block, table))
+    finding(settle::settle(block, table))
 }
 
 #[unsafe(no_mangle)]
 pub extern "C" fn zk_first_layout(block: &[i64], table: &mut [i64]) -> i64
-    ensures { (result ≡ layout_finding (layout_answer (refusal_layout block.now table.old)
-        (first_layout_of block.now table.old)))
+    ensures { (result ≡ finding (answer (refusal_layout block.now table.old)
+        (is_found (first_layout_of block.now table.old))))
         × (table.new ≡ table_after (refusal_layout block.now table.old) table.old
         (first_layout_of block.now table.old)) }
 {
-    layout_finding(layout::first_layout(block, table))
+    finding(layout::first_layout(block, table))
 }
 
 #[unsafe(no_mangle)]
@@ -287,7 +243,7 @@ pub extern "C" fn zk_relation(
     other: i64,
     dimension: i64,
 ) -> StandingFinding
-    ensures { result ≡ standing_finding (standing_answer (refusal_relation block.now table.now row other dimension)
+    ensures { result ≡ standing_finding (answer (refusal_relation block.now table.now row other dimension)
         (relation_of block.now table.now (nat row) (nat other) (nat dimension))) }
 {
     standing_finding(relate::relation(block, table, row, other, dimension))
@@ -295,9 +251,10 @@ pub extern "C" fn zk_relation(
 
 #[unsafe(no_mangle)]
 pub extern "C" fn zk_fill(block: &[i64], table: &[i64], rule: i64) -> ShareFinding
-    ensures { result ≡ share_finding (fill_answer (refusal_fill block.now table.now rule)
-        (covered_cells block.now table.now (rule_asked rule))
-        (permille (covered_cells block.now table.now (rule_asked rule)) (room_cells block.now (rule_asked rule)))) }
+    ensures { result ≡ share_finding (answer (refusal_fill block.now table.now rule) (record {
+      cells = covered_cells block.now table.now (rule_asked rule);
+      permille = permille (covered_cells block.now table.now (rule_asked rule)) (room_cells block.now (rule_asked rule));
+    })) }
 {
     share_finding(fill::fill(block, table, rule))
 }

@@ -6,7 +6,6 @@ use Prim.Native.Nat.{◌≤◌, ◌<◌}
 use native.Mathlib.Omega.{arith}
 use lib.IntN.{ℤ, pos}
 use Rattle.integers.specs.Integer.{nat, within}
-use Rattle.integers.proofs.Booleans.{not-false, and-true}
 use Rattle.integers.proofs.Ranges.{nat-from}
 use Rattle.sheet.specs.Layout.{rules}
 use Rattle.sheet.specs.Fill.{rule_asked, is_fill_rule}
@@ -34,7 +33,3 @@ module _ (block : List ℤ) (rule : ℤ) where
   pub one-asked : within (pos 1) (pos (rules block)) rule ≡ true → no_fill_rule block rule ≡ not (is_fill_rule block (rule_asked rule))
   unfolding no_fill_rule
   one-asked e = ap (λ (b : Bool). not (b && is_fill_rule block (rule_asked rule))) e
-
-  pub asked : no_fill_rule block rule ≡ false → (within (pos 1) (pos (rules block)) rule ≡ true) × (is_fill_rule block (rule_asked rule) ≡ true)
-  unfolding no_fill_rule
-  asked e = and-true (not-false e)

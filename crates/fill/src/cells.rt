@@ -27,14 +27,11 @@ fn brick_of(block: &[i64], table: &[i64], r: Place, i: Place, b: Place) -> Brick
     requires { NamedBox block.now table.now r i b }
     ensures { IsBrick block.now table.now r.number i.number b.number result }
 {
-    let k = words::dims_of(block);
     let mut from = [0usize; DIMS];
     let mut size = [0usize; DIMS];
-    let mut d = 0;
-    while d < k {
+    for d in 0..words::dims_of(block) {
         from[d] = place_of(block, table, r, i, b, d);
         size[d] = words::size_of(block, b, d) as usize;
-        d += 1;
     }
     Brick { from, size }
 }
@@ -55,13 +52,12 @@ fn mark_row(
         marks.old marks.new }
 {
     let k = words::dims_of(block);
-    let n = words::boxes_of(block);
     let s = words::lowest_shape(block, table, i);
-    let mut b = chain::first_of(block, outline, s);
-    while b < n {
+    let mut next = chain::first_of(block, outline, s);
+    while let Some(b) = next {
         let brick = brick_of(block, table, r, i, words::box_place(block, b));
         grid::mark_brick(marks, k, widths, brick);
-        b = chain::after(block, outline, b, s);
+        next = chain::after(block, outline, b, s);
     }
 }
 
@@ -79,14 +75,11 @@ fn mark_rows(
         marks.old marks.new }
 {
     let widths = room::widths_of(block, r);
-    let n = words::rows_of(block, table);
-    let mut m = 0;
-    while m < n {
+    for m in 0..words::rows_of(block, table) {
         if words::names_row(block, r, m + 1) {
             let i = words::row_place(block, table, m + 1);
             mark_row(block, table, outline, r, i, widths, marks);
         }
-        m += 1;
     }
 }
 

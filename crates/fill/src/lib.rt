@@ -4,11 +4,11 @@
 ghost use Rattle.std.specs.Prelude.{◌≡◌, ◌≤◌};
 ghost use Rattle.sheet.specs.Fill.{rule_asked, room_cells, covered_cells, permille};
 ghost use Rattle.sheet.specs.Refusal.{refusal_fill};
-ghost use Rattle.sheet.specs.Answer.{fill_answer};
+ghost use Rattle.sheet.specs.Answer.{answer};
 ghost use Rattle.grid.specs.Grid.{cells_most};
 
 use outline::OUTLINE;
-use sheet::Share;
+use sheet::{Refusal, Share};
 
 mod cells; // cells.rt: the cells that are covered
 mod room; // room.rt: checks 13 and 14
@@ -21,28 +21,23 @@ fn permille(c: usize, n: usize) -> usize
     (2000 * c + n) / (2 * n)
 }
 
-pub fn fill(block: &[i64], table: &[i64], rule: i64) -> Share
-    ensures { result ≡ fill_answer (refusal_fill block.now table.now rule)
-        (covered_cells block.now table.now (rule_asked rule))
-        (permille (covered_cells block.now table.now (rule_asked rule)) (room_cells block.now (rule_asked rule))) }
+pub fn fill(block: &[i64], table: &[i64], rule: i64) -> Result<Share, Refusal>
+    ensures { result ≡ answer (refusal_fill block.now table.now rule) (record {
+      cells = covered_cells block.now table.now (rule_asked rule);
+      permille = permille (covered_cells block.now table.now (rule_asked rule)) (room_cells block.now (rule_asked rule));
+    }) }
 {
-    let g = accept::placement_refusal(block, table);
-    if g > 0 {
-        return Share::Refused(g);
-    }
-    if room::no_fill_rule(block, rule) {
-        return Share::Refused(13);
-    }
-    let r = words::rule_place(block, rule as usize - 1);
-    let n = room::cells_of(block, r);
-    if n == 0 {
-        return Share::Refused(14);
-    }
+    accept::check_placement(block, table)?;
+    let r = room::rule_asked(block, rule)?;
+    let n = room::cells_of(block, r)?;
     let mut outline = [0i64; OUTLINE];
     outline::draw(block, &mut outline);
     if !placement::all_good(block, table, &outline) {
-        return Share::Refused(15);
+        return Err(Refusal::NotGood);
     }
     let c = cells::covered_cells(block, table, &outline, r, n);
-    Share::Of(c as i64, permille(c, n) as i64)
+    Ok(Share {
+        cells: c,
+        permille: permille(c, n),
+    })
 }

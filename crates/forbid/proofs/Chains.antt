@@ -1,10 +1,11 @@
 -- Walks along the boxes of a shape: what holds of each box passed holds of all at the end. Shapes forbid nothing where every box of the one is
 -- clear of every box of the other. Assumes nothing.
+use Rattle.std.specs.Prelude.{Option, Some, None}
 use mathlib.Core.Path.{◌≡◌, sym, ◌∙◌, subst}
 use mathlib.Core.Logic.{⊎_elim}
 use mathlib.Core.Bool.{true, false}
 use mathlib.Core.List.{List}
-use Prim.Native.Nat.{ℕ, ◌≤◌, ◌<◌}
+use Prim.Native.Nat.{ℕ, ◌+◌, ◌<◌}
 use native.Mathlib.Omega.{arith}
 use lib.IntN.{ℤ}
 use Rattle.integers.proofs.Booleans.{clash, fails}
@@ -15,39 +16,45 @@ use Rattle.sheet.specs.Accepted.{Boxed}
 use Rattle.sheet.proofs.Forbidden.{shapes-parts}
 use Rattle.words.specs.declared.Place.{Place}
 use Rattle.outline.specs.Places.{hull_of}
+use Rattle.outline.specs.Chain.{FirstFrom}
+use Rattle.outline.proofs.Chains.{upto, Next, walk}
 use Rattle.outline.specs.Outline.{Outline}
 use Rattle.outline.proofs.Solids.{lies-in-refl}
 use Rattle.forbid.proofs.Solids.{forbids_to, solids-wider, solids-boxes}
 
--- a walk along the boxes of shape s stands at box n, or past all boxes, and every box of s before n is P
-pub record Walk (block : List ℤ) (s n : ℕ) (P : ℕ → Type 0) : Type 0 where
-  pub upto : n ≤ boxes block
-  pub is : n < boxes block → is_of block n s ≡ true
-  pub passed : (b : ℕ) → b < n → is_of block b s ≡ true → P b
+-- a walk along the boxes of shape s stands at a box, or past all boxes, and every box of s before is P
+pub record Walk (block : List ℤ) (s : ℕ) (x : Option ℕ) (P : ℕ → Type 0) : Type 0 where
+  pub next : Next block s x
+  pub passed : (b : ℕ) → b < upto block x → is_of block b s ≡ true → P b
 
 -- every box of shape s is P
 pub record EachOf (block : List ℤ) (s : ℕ) (P : ℕ → Type 0) : Type 0 where
   pub each : (b : ℕ) → b < boxes block → is_of block b s ≡ true → P b
 
-module _ {block : List ℤ} {s n : ℕ} {P : ℕ → Type 0} where
+module _ {block : List ℤ} {s : ℕ} {P : ℕ → Type 0} where
   -- at the first box
-  pub walk_first : (n ≤ boxes block) × (n < boxes block → is_of block n s ≡ true) × ((b : ℕ) → b < n → is_of block b s ≡ false)
-      → Walk block s n P
-  walk_first f = record { upto = f.0; is = f.1; passed = λ b h e. clash e (f.2 b h) }
+  pub walk_first : (x : Option ℕ) → FirstFrom block s 0 x → Walk block s x P
+  walk_first x f = let w = walk x (omega arith) f in record { next = w.next; passed = λ b h e. clash e (w.skips b (omega arith) h) }
 
-  -- at the next box, m
-  pub walk-next : {m : ℕ} → Walk block s n P → P n
-      → (n < m) × (m ≤ boxes block) × (m < boxes block → is_of block m s ≡ true) × ((b : ℕ) → n < b → b < m → is_of block b s ≡ false)
-      → Walk block s m P
-  walk-next w x f = record {
-    upto = f.1;
-    is = f.2;
-    passed = λ b h e. ⊎_elim (λ k. w.passed b k e)
-        (λ k. ⊎_elim (λ q. subst P q x) (λ q. clash e (f.3 b (omega (arith, k, q)) h)) (same_or n b)) (below_or b n);
-  }
+  -- at box n, which is one of s
+  module _ {n : ℕ} {y : Option ℕ} (at : y ≡ Some n) (w : Walk block s y P) where
+    pub walk-box : (n < boxes block) × (is_of block n s ≡ true)
+    walk-box = rw at at w.next
 
-  pub walk-over : Walk block s n P → boxes block ≤ n → EachOf block s P
-  walk-over w h = record { each = λ b k e. w.passed b (omega arith) e }
+    -- at the next one
+    pub walk-next : (x : Option ℕ) → P n → FirstFrom block s (n + 1) x → Walk block s x P
+    walk-next x p f =
+        let l = walk-box.0 in
+        let m = walk x (omega (arith, l)) f in
+        record {
+          next = m.next;
+          passed = λ b h e. ⊎_elim (λ k. w.passed b (subst (λ (o : Option ℕ). b < upto block o) (sym at) k) e)
+              (λ k. ⊎_elim (λ q. subst P q p) (λ q. clash e (m.skips b (omega (arith, k, q)) h)) (same_or n b)) (below_or b n);
+        }
+
+  -- past all boxes
+  pub walk-over : {y : Option ℕ} → y ≡ None → Walk block s y P → EachOf block s P
+  walk-over at w = record { each = λ b h. w.passed b (subst (λ (o : Option ℕ). b < upto block o) (sym at) h) }
 
 module _ (block t o : List ℤ) (r : Place) (s : ℕ) (j : Place) (p : List ℤ) where
   -- box c forbids p to no box of shape s

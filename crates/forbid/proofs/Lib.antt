@@ -3,3 +3,4 @@ pub mod Solids
 pub mod Regions
 pub mod Rows
 pub mod Chains
+pub mod Finds

@@ -1,20 +1,28 @@
 -- Laws of pairs of solids: larger solids forbid more, boxes forbid what document 01 says, and hulls forbid what any boxes of their shapes do, and
 -- no more where each shape has one box. Assumes nothing.
-use mathlib.Core.Path.{◌≡◌, sym, ap, ap₂, ◌∙◌}
-use mathlib.Core.Bool.{Bool, true}
+use mathlib.Core.Path.{◌≡◌, refl, sym, ap, ap₂, ◌∙◌}
+use mathlib.Core.Bool.{Bool, true, false}
 use mathlib.Core.List.{List}
-use Prim.Native.Nat.{ℕ, ◌<◌}
+use Prim.Native.Nat.{ℕ, ◌+◌, ◌<◌}
 use native.Mathlib.Omega.{arith}
 use lib.IntN.{ℤ}
+use lib.ListN.{length, set, length-set}
+use mir.Syntax.{w64}
+use mir.Val.{to_z, of_z}
 use Rattle.integers.specs.Integer.{within}
 use Rattle.integers.specs.Below.{◌⇒◌}
 use Rattle.integers.specs.Words.{word}
-use Rattle.integers.proofs.Booleans.{implies_true, true_implies}
+use Rattle.integers.proofs.Booleans.{implies_true, true_implies, implies-in, implies-out}
 use Rattle.integers.proofs.Below.{all-at, at_all, all_same}
-use Rattle.sheet.specs.Layout.{boxes, names_dim}
+use Rattle.integers.proofs.Machine.{within_by}
+use Rattle.sheet.specs.Layout.{dims, axes, boxes, names_dim}
 use Rattle.sheet.specs.Allowed.{pair_forbids, shapes_forbid}
 use Rattle.sheet.specs.Accepted.{Boxed, Block, Table}
-use Rattle.sheet.proofs.Forbidden.{shapes-by, shapes-parts}
+use Rattle.sheet.proofs.Forbidden.{axis, shapes-by, shapes-parts}
+use Rattle.points.specs.declared.Area.{Area}
+use Rattle.points.specs.Area.{coordinates, Cuts, field_area}
+use Rattle.points.proofs.Sums.{near-back}
+use Rattle.points.proofs.Fills.{Fills, fills-none, fills-skip, fills-set}
 use Rattle.words.specs.declared.Place.{Place}
 use Rattle.words.specs.Places.{RulePlace, RowPlace}
 use Rattle.outline.specs.Places.{solids, hull_of}
@@ -22,8 +30,14 @@ use Rattle.outline.specs.Chain.{Sole}
 use Rattle.outline.specs.Solids.{Boxes, LiesIn, Modest}
 use Rattle.outline.specs.Outline.{Outline}
 use Rattle.outline.proofs.Solids.{box-modest, hull-near}
-use Rattle.forbid.specs.Pair.{PairPlaces, side_forbids, solids_forbid}
+use Rattle.forbid.specs.declared.pair.Pair.{Pair}
+use Rattle.forbid.specs.declared.interval.Interval.{Interval}
+use Rattle.forbid.specs.Pair.{PairPlaces, IsInterval, side_forbids, solids_forbid}
 use Rattle.forbid.proofs.Intervals.{interval-wider, first-of-boxes, last-of-boxes}
+
+-- the pair forbids p in dimension d, if the rule names d
+abbrev pub in_side : List ℤ → List ℤ → List ℤ → Pair → ℕ → List ℤ → Bool
+in_side block t o x d p = side_forbids block t o x d (word p d)
 
 module _ (block t o : List ℤ) (r j : Place) where
   -- what solid y of row j forbids to solid x by rule r
@@ -66,6 +80,55 @@ module _ (block t o : List ℤ) (r j : Place) where
               sym (solids-boxes x.boxes_of i b.below c.below p)
               ∙ solids-wider p ((x.hulls s own).sole _ b) ((x.hulls s' other).sole _ c) e;
         })
+
+-- ---- the points that a pair forbids, dimension by dimension
+module _ (block t o : List ℤ) (x : Pair) where
+  -- the area holds those of the field that the pair forbids in each dimension below n
+  pub record Sides (n : ℕ) (a : Area) : Type 0 where
+    pub long_low : length a.low ≡ coordinates
+    pub long_high : length a.high ≡ coordinates
+    pub fills : Fills (axes block) n a (in_side block t o x)
+
+  -- a number as the code holds it
+  abbrev held : ℤ → ℤ
+  held z = to_z w64 (of_z w64 z)
+
+  pub sides-none : Sides 0 field_area
+  unfolding field_area
+  sides-none = record { long_low = refl; long_high = refl; fills = fills-none _ }
+
+  -- a point that the pair forbids lies in each of its intervals
+  pub sides-at : {d : ℕ} {y : Interval} (p : List ℤ) → d < dims block → names_dim block x.r.number d ≡ true → IsInterval block t o x d y
+      → solids_forbid block t o x p ≡ true → within (held y.from) (held y.to) (word p d) ≡ true
+  unfolding solids_forbid side_forbids
+  sides-at {d} p h e y f =
+      ap₂ (λ (b c : ℤ). within b c (word p d)) (near-back y.from_within ∙ y.from) (near-back y.to_within ∙ y.to)
+      ∙ sym (implies-in _ e) ∙ all-at (λ m. in_side block t o x m p) f d h
+
+  module _ {d : ℕ} {a : Area} (s : Sides d a) where
+    -- a dimension that the rule does not name, and one that it does
+    pub sides-skip : names_dim block x.r.number d ≡ false → Sides (d + 1) a
+    unfolding side_forbids
+    sides-skip e = record { long_low = s.long_low; long_high = s.long_high; fills = fills-skip _ s.fills (λ p. implies-out _ e) }
+
+    pub sides-set : {y : Interval} → Block block → d < dims block → names_dim block x.r.number d ≡ true → IsInterval block t o x d y
+        → Sides (d + 1) (record { low = set a.low d (held y.from); high = set a.high d (held y.to) })
+    unfolding side_forbids
+    sides-set w h e y =
+        let from = near-back y.from_within in
+        let to = near-back y.to_within in
+        record {
+          long_low = simp length-set s.long_low;
+          long_high = simp length-set s.long_high;
+          fills =
+              fills-set _ s.fills (within_by from y.from_within) (within_by to y.to_within) (omega (arith, h, w.head.few_dims)) (axis block h)
+              s.long_low s.long_high
+              (λ p. ap₂ (λ (b c : ℤ). within b c (word p d)) (from ∙ y.from) (to ∙ y.to) ∙ sym (implies-in _ e));
+        }
+
+  pub sides-all : {n : ℕ} {a : Area} → n ≡ dims block → Sides n a → Cuts (axes block) field_area a (solids_forbid block t o x)
+  unfolding solids_forbid
+  sides-all e s = rw e at s.fills.cuts
 
 -- ---- the places of pairs
 module _ {block t o : List ℤ} {r j : Place} (w : Block block) (u : Table block t) (x : Outline block o) (rule : RulePlace block r)

@@ -1,5 +1,5 @@
 -- One solid of a row against one solid of another: what the code for a pair requires and promises. Assumes nothing.
-use Rattle.std.specs.Prelude.{◌≡◌, Bool, true, false, List, ℕ, ◌<◌, ℤ}
+use Rattle.std.specs.Prelude.{IfSome, IfNone, Option, ◌≡◌, Bool, true, List, ℕ, ◌<◌, ℤ}
 use Rattle.integers.specs.Integer.{within, Within}
 use Rattle.integers.specs.Below.{◌⇒◌, all_below}
 use Rattle.integers.specs.Words.{word}
@@ -7,11 +7,11 @@ use Rattle.sheet.specs.Layout.{dims, axes, low, high, clearance, names_dim}
 use Rattle.sheet.specs.Allowed.{in_ranges}
 use Rattle.sheet.specs.Accepted.{Block, Table}
 use Rattle.words.specs.Places.{RulePlace, RowPlace}
+use Rattle.points.specs.declared.Area.{Area}
 use Rattle.points.specs.Area.{reach, Cuts, field_area}
 use Rattle.outline.specs.declared.solid.Extent.{Extent}
 use Rattle.outline.specs.Places.{solids, start_of, end_of}
 use Rattle.outline.specs.Solids.{Modest}
-use Rattle.forbid.specs.declared.Region.{Region}
 use Rattle.forbid.specs.declared.pair.Pair.{Pair}
 use Rattle.forbid.specs.declared.interval.Interval.{Interval}
 use Rattle.forbid.specs.Interval.{forbid_first, forbid_last}
@@ -45,10 +45,10 @@ module _ (block t o : List ℤ) (x : Pair) where
   unfoldable pub solids_forbid : List ℤ → Bool
   solids_forbid p = all_below (dims block) (λ d. side_forbids d (word p d))
 
-  -- y tells the points that the pair forbids, or that it forbids none of row i's ranges
-  pub record Meets (i : ℕ) (y : Region) : Type 0 where
-    pub clear : y.hit ≡ false → (p : List ℤ) → in_ranges block t i p ≡ true → solids_forbid p ≡ true → ⊥
-    pub area : y.hit ≡ true → Cuts (axes block) field_area y.area solids_forbid
+  -- y is the area of the points that the pair forbids, or there is none and it forbids none of row i's ranges
+  pub record Meets (i : ℕ) (y : Option Area) : Type 0 where
+    pub clear : IfNone y ((p : List ℤ) → in_ranges block t i p ≡ true → solids_forbid p ≡ true → ⊥)
+    pub area : IfSome y (λ a. Cuts (axes block) field_area a solids_forbid)
 
   pub record IsInterval (d : ℕ) (y : Interval) : Type 0 where
     pub from : y.from ≡ from_of d

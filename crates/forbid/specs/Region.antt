@@ -1,26 +1,23 @@
 -- Regions: whether a point passes a test, and where it does, an area around it in which every point does. Assumes nothing.
-use Rattle.std.specs.Prelude.{◌≡◌, Bool, true, false, ◌&&◌, List, ℕ, ◌≤◌, ◌<◌, ℤ}
+use Rattle.std.specs.Prelude.{is_some, IfSome, IfNone, Option, ◌≡◌, Bool, true, false, ◌&&◌, List, ℕ, ◌<◌, ℤ}
 use Rattle.integers.specs.Below.{any_up_to}
 use Rattle.sheet.specs.Layout.{axes, boxes, is_of, is_non_overlap, names_row, rows}
 use Rattle.sheet.specs.Allowed.{shapes_forbid, row_forbids}
 use Rattle.sheet.specs.Accepted.{Boxed, Block, Table}
 use Rattle.words.specs.declared.Place.{Place}
 use Rattle.words.specs.Places.{RulePlace, RowPlace}
-use Rattle.points.specs.Area.{in_area, Small, InField, field_area}
+use Rattle.points.specs.declared.Area.{Area}
+use Rattle.points.specs.Area.{in_area, Small, InField}
 use Rattle.outline.specs.Outline.{Outline}
-use Rattle.forbid.specs.declared.Region.{Region}
 use Rattle.forbid.specs.declared.row.Boxes.{Boxes}
 use Rattle.forbid.specs.Pair.{solids_forbid}
 
--- the region is hit exactly when p is F, and then its area holds p and only points that are F
-pub record IsRegion (k : ℕ) (F : List ℤ → Bool) (p : List ℤ) (x : Region) : Type 0 where
-  pub hit : x.hit ≡ F p
-  pub around : x.hit ≡ true → in_area k x.area p ≡ true
-  pub only : x.hit ≡ true → (q : List ℤ) → in_area k x.area q ≡ true → F q ≡ true
-  pub small : Small x.area
-
-unfoldable pub no_region : Region
-no_region = record { hit = false; area = field_area }
+-- there is an area exactly when p is F, and it holds p and only points that are F
+pub record IsRegion (k : ℕ) (F : List ℤ → Bool) (p : List ℤ) (x : Option Area) : Type 0 where
+  pub hit : is_some x ≡ F p
+  pub around : IfSome x (λ a. in_area k a p ≡ true)
+  pub only : IfSome x (λ a. (q : List ℤ) → in_area k a q ≡ true → F q ≡ true)
+  pub small : IfSome x Small
 
 module _ (block : List ℤ) (t : List ℤ) where
   -- a shape of an accepted sheet, whose outline is o, and a point near enough
@@ -45,10 +42,10 @@ module _ (block : List ℤ) (t : List ℤ) where
     pub other_is : is_of block x.other u ≡ true
     pub forbids : solids_forbid block t o (record { r = r; own = x.own; j = j; other = x.other }) p ≡ true
 
-  -- so, or past all boxes where the shapes do not forbid p
-  pub record PairFound (o : List ℤ) (r : Place) (s : ℕ) (j : Place) (u : ℕ) (p : List ℤ) (x : Boxes) : Type 0 where
-    pub pair : x.other < boxes block → PairAt o r s j u p x
-    pub none : boxes block ≤ x.other → (i : ℕ) → shapes_forbid block t r.number p i s j.number u ≡ false
+  -- so, or there is none and the shapes do not forbid p
+  pub record PairFound (o : List ℤ) (r : Place) (s : ℕ) (j : Place) (u : ℕ) (p : List ℤ) (x : Option Boxes) : Type 0 where
+    pub pair : IfSome x (PairAt o r s j u p)
+    pub none : IfNone x ((i : ℕ) → shapes_forbid block t r.number p i s j.number u ≡ false)
 
   -- some row forbids p by rule r; the rule is one of kind 1 that names row i
   unfoldable pub rows_forbid : ℕ → ℕ → ℕ → List ℤ → Bool

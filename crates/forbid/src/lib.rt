@@ -13,30 +13,11 @@ ghost use Rattle.sheet.specs.Layout.{axes, rules, is_non_overlap, names_row};
 ghost use Rattle.sheet.specs.Allowed.{forbidden};
 ghost use Rattle.sheet.specs.Accepted.{Block};
 ghost use Rattle.words.specs.Places.{RulePlace, RowPlace};
-ghost use Rattle.forbid.specs.Region.{IsRegion, no_region, AtPoint, rows_forbid, rule_forbids};
+ghost use Rattle.forbid.specs.Region.{IsRegion, AtPoint, rows_forbid, rule_forbids};
 
 use outline::OUTLINE;
 use points::{Area, COORDINATES};
 use words::Place;
-
-// Whether a point is forbidden, and where it is, an area around it in which every point is. The area stands first: a copy of what follows the
-// mark would lie athwart the words as they were written, and wait for them.
-#[derive(Clone, Copy)]
-pub struct Region {
-    pub area: Area,
-    pub hit: bool,
-}
-
-impl Region {
-    pub fn none() -> Self
-        ensures { result ≡ no_region }
-    {
-        Region {
-            hit: false,
-            area: Area::field(),
-        }
-    }
-}
 
 // What rule r forbids to row i with shape s at p, by some other row.
 fn rows_region(
@@ -47,23 +28,15 @@ fn rows_region(
     i: usize,
     s: usize,
     p: [i64; COORDINATES],
-) -> Region
+) -> Option<Area>
     requires { AtPoint block.now table.now outline.now s p × RulePlace block.now r }
     ensures { IsRegion (axes block.now)
         (rows_forbid block.now table.now r.number i s) p result }
 {
-    let n = words::rows_of(block, table);
-    let mut j = 0;
-    while j < n {
+    (0..words::rows_of(block, table)).find_map(|j| {
         let other = words::row_place(block, table, j + 1);
-        let x = row::row_region(block, table, outline, r, i, s, other, p);
-        let hit = x.hit;
-        if hit {
-            return x;
-        }
-        j += 1;
-    }
-    Region::none()
+        row::row_region(block, table, outline, r, i, s, other, p)
+    })
 }
 
 // Whether rule r keeps row i apart from other rows.
@@ -72,10 +45,7 @@ pub fn is_non_overlap_of(block: &[i64], r: Place, i: usize) -> bool
     ensures { result ≡ (is_non_overlap block.now r.number
         && names_row block.now r.number i) }
 {
-    if words::is_non_overlap(block, r) {
-        return words::names_row(block, r, i);
-    }
-    false
+    words::is_non_overlap(block, r) && words::names_row(block, r, i)
 }
 
 // What rule r forbids to row i with shape s at p.
@@ -87,17 +57,16 @@ fn rule_region(
     s: usize,
     r: usize,
     p: [i64; COORDINATES],
-) -> Region
+) -> Option<Area>
     requires { AtPoint block.now table.now outline.now s p × RowPlace block.now table.now i × (r < rules block.now) }
     ensures { IsRegion (axes block.now)
         (rule_forbids block.now table.now i.number s r) p result }
 {
     let rule = words::rule_place(block, r);
-    let row = i.number;
-    if !is_non_overlap_of(block, rule, row) {
-        return Region::none();
+    if !is_non_overlap_of(block, rule, i.number) {
+        return None;
     }
-    rows_region(block, table, outline, rule, row, s, p)
+    rows_region(block, table, outline, rule, i.number, s, p)
 }
 
 // Whether row i with shape s is forbidden at p, and where it is, an area around p in which it is.
@@ -108,20 +77,10 @@ pub fn forbidding_region(
     i: Place,
     s: usize,
     p: [i64; COORDINATES],
-) -> Region
+) -> Option<Area>
     requires { AtPoint block.now table.now outline.now s p × RowPlace block.now table.now i }
     ensures { IsRegion (axes block.now)
         (forbidden block.now table.now i.number s) p result }
 {
-    let n = words::rules_of(block);
-    let mut r = 0;
-    while r < n {
-        let x = rule_region(block, table, outline, i, s, r, p);
-        let hit = x.hit;
-        if hit {
-            return x;
-        }
-        r += 1;
-    }
-    Region::none()
+    (0..words::rules_of(block)).find_map(|r| rule_region(block, table, outline, i, s, r, p))
 }

@@ -7,10 +7,10 @@ ghost use Rattle.words.specs.Places.{RowPlace};
 ghost use Rattle.points.specs.Area.{Cuts, field_area};
 ghost use Rattle.forbid.specs.Pair.{PairPlaces, Meets, IsInterval, side_forbids, solids_forbid};
 
+use crate::interval;
 use crate::interval::Interval;
-use crate::{Region, interval};
 use outline::{OUTLINE, solid};
-use points::{Area, COORDINATES, REACH};
+use points::{Area, COORDINATES};
 use words::Place;
 
 // Rule r, a solid of a row, and another solid of row j: what the other forbids to the own one.
@@ -33,13 +33,11 @@ fn interval_of(
     requires { PairPlaces block.now table.now outline.now pair × (d < dims block.now) }
     ensures { IsInterval block.now table.now outline.now pair d result }
 {
-    let j = pair.j;
     let own = solid::extent_of(outline, pair.own, d);
     let other = solid::extent_of(outline, pair.other, d);
-    let low = words::low_of(block, table, j, d);
-    let high = words::high_of(block, table, j, d);
-    let r = pair.r;
-    let clearance = words::clearance_of(block, r, d);
+    let low = words::low_of(block, table, pair.j, d);
+    let high = words::high_of(block, table, pair.j, d);
+    let clearance = words::clearance_of(block, pair.r, d);
     interval::overlapping(own, other, low, high, clearance)
 }
 
@@ -55,8 +53,7 @@ fn side_forbids(
     requires { PairPlaces block.now table.now outline.now pair × (d < dims block.now) }
     ensures { result ≡ side_forbids block.now table.now outline.now pair d x }
 {
-    let r = pair.r;
-    if !words::names_dim(block, r, d) {
+    if !words::names_dim(block, pair.r, d) {
         return true;
     }
     let interval = interval_of(block, table, outline, pair, d);
@@ -76,17 +73,7 @@ pub(crate) fn pair_forbids(
     ensures { result ≡ solids_forbid block.now table.now outline.now pair p }
 {
     let k = words::dims_of(block);
-    let mut d = 0;
-    while d < COORDINATES {
-        if d == k {
-            return true;
-        }
-        if !side_forbids(block, table, outline, pair, d, p[d]) {
-            return false;
-        }
-        d += 1;
-    }
-    true
+    (0..COORDINATES).all(|d| d >= k || side_forbids(block, table, outline, pair, d, p[d]))
 }
 
 // Whether no number from a first to a last one lies from low to high. All three tests are made, for one branch instead of three.
@@ -104,56 +91,40 @@ pub fn pair_meets(
     outline: &[i64; OUTLINE],
     pair: Pair,
     i: Place,
-) -> Region
+) -> Option<Area>
     requires { PairPlaces block.now table.now outline.now pair × RowPlace block.now table.now i }
     ensures { Meets block.now table.now outline.now pair i.number result }
 {
-    let k = words::dims_of(block);
-    let r = pair.r;
-    let mut low = [-REACH; COORDINATES];
-    let mut high = [REACH; COORDINATES];
-    let mut d = 0;
-    while d < k {
-        if words::names_dim(block, r, d) {
-            let interval = interval_of(block, table, outline, pair, d);
-            let from = interval.from;
-            let to = interval.to;
+    let mut area = Area::field();
+    for d in 0..words::dims_of(block) {
+        if words::names_dim(block, pair.r, d) {
+            let x = interval_of(block, table, outline, pair, d);
             let first = words::low_of(block, table, i, d);
             let last = words::high_of(block, table, i, d);
-            if is_apart(from, to, first, last) {
-                return Region::none();
+            if is_apart(x.from, x.to, first, last) {
+                return None;
             }
-            low[d] = from;
-            high[d] = to;
+            area.low[d] = x.from;
+            area.high[d] = x.to;
         }
-        d += 1;
     }
-    Region {
-        hit: true,
-        area: Area { low, high },
-    }
+    Some(area)
 }
 
-// The points that the pair forbids: its intervals in the named dimensions, the whole field in the others.
+// The points that the pair forbids: its intervals in the named dimensions, the whole field in the others. In one function with `pair_meets`, whose
+// test it lacks, its answer would be an `Option` that is never `None`.
 pub(crate) fn pair_area(block: &[i64], table: &[i64], outline: &[i64; OUTLINE], pair: Pair) -> Area
     requires { PairPlaces block.now table.now outline.now pair }
     ensures { Cuts (axes block.now) field_area result
         (solids_forbid block.now table.now outline.now pair) }
 {
-    let k = words::dims_of(block);
-    let r = pair.r;
-    let mut low = [-REACH; COORDINATES];
-    let mut high = [REACH; COORDINATES];
-    let mut d = 0;
-    while d < k {
-        if words::names_dim(block, r, d) {
-            let interval = interval_of(block, table, outline, pair, d);
-            let from = interval.from;
-            let to = interval.to;
-            low[d] = from;
-            high[d] = to;
+    let mut area = Area::field();
+    for d in 0..words::dims_of(block) {
+        if words::names_dim(block, pair.r, d) {
+            let x = interval_of(block, table, outline, pair, d);
+            area.low[d] = x.from;
+            area.high[d] = x.to;
         }
-        d += 1;
     }
-    Area { low, high }
+    area
 }

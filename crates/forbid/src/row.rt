@@ -5,8 +5,8 @@ ghost use Rattle.sheet.specs.Allowed.{shapes_forbid, set_forbids, row_forbids};
 ghost use Rattle.sheet.specs.Accepted.{Boxed};
 ghost use Rattle.forbid.specs.Region.{IsRegion, Versus, PairFound};
 
+use crate::pair;
 use crate::pair::Pair;
-use crate::{Region, pair};
 use outline::{OUTLINE, chain, solid};
 use points::{Area, COORDINATES};
 use words::Place;
@@ -18,8 +18,8 @@ pub(crate) struct Boxes {
     pub other: usize,
 }
 
-// A box of shape s and a box of shape t of row j that forbid p: one pair is enough. Past all boxes where none do. A box of t that is clear of
-// the hull of s is clear of every box of s.
+// A box of shape s and a box of shape t of row j that forbid p: one pair is enough. A box of t that is clear of the hull of s is clear of every
+// box of s.
 fn forbidding_boxes(
     block: &[i64],
     table: &[i64],
@@ -29,15 +29,14 @@ fn forbidding_boxes(
     j: Place,
     t: usize,
     p: [i64; COORDINATES],
-) -> Boxes
+) -> Option<Boxes>
     requires { Versus block.now table.now outline.now r s j p × Boxed block.now t }
     ensures { PairFound block.now table.now outline.now r s j t p result }
 {
-    let n = words::boxes_of(block);
     let hull = solid::hull_of(s);
-    let mut own = n;
-    let mut other = chain::first_of(block, outline, t);
-    'pairs: while other < n {
+    let mut found = None;
+    let mut other_box = chain::first_of(block, outline, t);
+    'pairs: while let Some(other) = other_box {
         if pair::pair_forbids(
             block,
             table,
@@ -50,17 +49,18 @@ fn forbidding_boxes(
             },
             p,
         ) {
-            own = chain::first_of(block, outline, s);
-            while own < n {
+            let mut own_box = chain::first_of(block, outline, s);
+            while let Some(own) = own_box {
                 if pair::pair_forbids(block, table, outline, Pair { r, own, j, other }, p) {
+                    found = Some(Boxes { own, other });
                     break 'pairs;
                 }
-                own = chain::after(block, outline, own, s);
+                own_box = chain::after(block, outline, own, s);
             }
         }
-        other = chain::after(block, outline, other, t);
+        other_box = chain::after(block, outline, other, t);
     }
-    Boxes { own, other }
+    found
 }
 
 // What row j forbids with shape t to shape s of another row: what a pair of boxes does.
@@ -73,21 +73,13 @@ pub fn shapes_region(
     j: Place,
     t: usize,
     p: [i64; COORDINATES],
-) -> Region
+) -> Option<Area>
     requires { Versus block.now table.now outline.now r s j p × Boxed block.now t }
     ensures { (i : ℕ) → IsRegion (axes block.now)
         (λ q. shapes_forbid block.now table.now r.number q i s j.number t) p result }
 {
-    let boxes = forbidding_boxes(block, table, outline, r, s, j, t, p);
-    let own = boxes.own;
-    let other = boxes.other;
-    if other >= words::boxes_of(block) {
-        return Region::none();
-    }
-    Region {
-        hit: true,
-        area: pair::pair_area(block, table, outline, Pair { r, own, j, other }),
-    }
+    let Boxes { own, other } = forbidding_boxes(block, table, outline, r, s, j, t, p)?;
+    Some(pair::pair_area(block, table, outline, Pair { r, own, j, other }))
 }
 
 // What row j forbids by its set, from its first shape to its last: each of them forbids the point, and the area is what they share. No further
@@ -100,7 +92,7 @@ pub fn set_region(
     s: usize,
     j: Place,
     p: [i64; COORDINATES],
-) -> Region
+) -> Option<Area>
     requires { Versus block.now table.now outline.now r s j p }
     ensures { (i : ℕ) → IsRegion (axes block.now)
         (λ q. set_forbids block.now table.now r.number q i s j.number) p result }
@@ -108,22 +100,16 @@ pub fn set_region(
     let k = words::axes_of(block);
     let set = words::shapes_of(block, table, j);
     let mut area = Area::field();
-    let mut t = u32::trailing_zeros(set) as usize;
-    while t < 32 {
+    for t in u32::trailing_zeros(set) as usize..32 {
         if words::is_below(set, t) {
             break;
         }
         if words::has_shape(block, table, j, t + 1) {
-            let x = shapes_region(block, table, outline, r, s, j, t + 1, p);
-            let hit = x.hit;
-            if !hit {
-                return x;
-            }
-            area = area.common(k, x.area);
+            let other = shapes_region(block, table, outline, r, s, j, t + 1, p)?;
+            area = area.common(k, other);
         }
-        t += 1;
     }
-    Region { hit: true, area }
+    Some(area)
 }
 
 // What row j forbids to row i, if it is another row and the rule names it.
@@ -136,17 +122,17 @@ pub(crate) fn row_region(
     s: usize,
     j: Place,
     p: [i64; COORDINATES],
-) -> Region
+) -> Option<Area>
     requires { Versus block.now table.now outline.now r s j p }
     ensures { IsRegion (axes block.now)
         (λ q. row_forbids block.now table.now r.number q i s j.number) p result }
 {
     let other = j.number;
     if other == i {
-        return Region::none();
+        return None;
     }
     if !words::names_row(block, r, other) {
-        return Region::none();
+        return None;
     }
     set_region(block, table, outline, r, s, j, p)
 }

@@ -1,7 +1,6 @@
 -- From k to block and table: the lines after the first, the counts before the records, and the end of the text. Assumes nothing.
 use mathlib.Core.Path.{◌≡◌, refl, ap, ◌∙◌}
 use mathlib.Core.Logic.{⊎_elim}
-use mathlib.Core.Bool.{true}
 use mathlib.Core.List.{List, [], ◌∷◌, ◌++◌}
 use mathlib.Core.Option.{none, some}
 use Prim.Native.Nat.{ℕ, ◌+◌, ◌-◌, ◌*◌, ◌≤◌, ◌<◌}
@@ -10,6 +9,7 @@ use borrow.Author.Tests.{le-leb}
 use lib.IntN.{ℤ, pos}
 use lib.ListN.{length, take, drop, length-drop, drop_of_length-le}
 use lib.Seq.{sets, length-take-le}
+use Rattle.std.specs.Prelude.{Some}
 use Rattle.integers.proofs.Below.{below_or}
 use Rattle.stores.proofs.Stores.{sets-before}
 use Rattle.stores.proofs.Puts.{put-more}
@@ -17,7 +17,7 @@ use Rattle.sheet.specs.Layout.{block_most, table_most}
 use Rattle.sheet.specs.Text.{split, Sheet, ended, records}
 use Rattle.line.specs.Parts.{until, parts_from}
 use Rattle.line.specs.Answers.{zeros, placed, lines_from, LinesRead}
-use Rattle.form.specs.Parsed.{parsed_of}
+use Rattle.form.specs.Parsed.{filled, parsed_of}
 use Rattle.line.specs.declared.Passed.{Passed}
 use Rattle.line.proofs.Parts.{parts_none, parts_next, part-ends}
 
@@ -94,8 +94,8 @@ module _ (s : List ℕ) (at k : ℕ) {block₀ block₁ block₂ table₀ table�
 
   -- from zeros, with the counts put last, that is the answer for this text
   pub parsed : {block : List ℤ} → block₀ ≡ zeros block_most → table₀ ≡ zeros table_most → o.next ≡ length s → block ≡ sets block₂ 0 counts
-      → record { formed = true; block = block; block_len = r.end; table = table₁; table_len = o.end } ≡ parsed_of (records k (parts_from 10 s at))
-  unfolding parsed_of placed
+      → Some (record { block = block; block_len = r.end; table = table₁; table_len = o.end }) ≡ parsed_of (records k (parts_from 10 s at))
+  unfolding parsed_of filled placed
   parsed x y h e =
       let block = e ∙ block-is ∙ ap (λ (l : List ℤ). sets l 0 sheet_of.block) x in
       let table = os.put.stored ∙ ap (λ (l : List ℤ). sets l 0 words_o) y in

@@ -2,139 +2,96 @@
 // A text may have more words than a sheet has room for: the lines past it are checked and counted all the same.
 #![tactic(auto)]
 
-ghost use Rattle.std.specs.Prelude.{◌≡◌, [], ◌∷◌, ◌+◌, ◌≤◌, pos};
-ghost use Rattle.std.proofs.Math.Option.{none, some};
-ghost use Rattle.std.proofs.lemmas.List.Edits.{sets};
-ghost use Rattle.sheet.specs.Layout.{block_most, table_most};
+ghost use Rattle.std.specs.Prelude.{◌≡◌};
 ghost use Rattle.sheet.specs.Text.{records, read_text};
 ghost use Rattle.line.specs.Parts.{parts_from};
-ghost use Rattle.line.specs.Answers.{zeros, text_most};
-ghost use Rattle.form.specs.Parsed.{parsed_of, head_of, k_of, RecordsAhead};
+ghost use Rattle.line.specs.Answers.{zeros};
+ghost use Rattle.form.specs.Parsed.{filled, parsed_of, head_of, k_of, RecordsAhead};
 
 use line::{TEXT_BYTES, find, lines_into, read_line};
 use sheet::{BLOCK_WORDS, TABLE_WORDS};
-use stores::put_word;
+use stores::{put, put_all};
 
-// Whether a text is in the form; its block and table as far as there is room, with zeros past the words; how many words it has for each.
+// Block and table of a text that is in the form, as far as there is room, with zeros past the words; how many words it has for each, which
+// may be more than there is room for: so each is an array with a count, and no slice. A vector would ask for memory, which the program never
+// does (docs/DECISIONS.md, 36).
 #[derive(Clone, Copy)]
 pub struct Parsed {
-    pub formed: bool,
     pub block: [i64; BLOCK_WORDS],
     pub block_len: usize,
     pub table: [i64; TABLE_WORDS],
     pub table_len: usize,
 }
 
-// Zeros for the largest block.
-pub fn block_zeros() -> [i64; BLOCK_WORDS]
-    ensures { result ≡ zeros block_most }
+// As many zeros.
+#[tactic(auto, unfolding(line::specs::Answers::zeros))]
+pub fn zeros<const N: usize>() -> [i64; N]
+    ensures { result ≡ zeros N }
 {
-    [0i64; BLOCK_WORDS]
-}
-
-// Zeros for the largest table.
-pub fn table_zeros() -> [i64; TABLE_WORDS]
-    ensures { result ≡ zeros table_most }
-{
-    [0i64; TABLE_WORDS]
-}
-
-// What is handed back of a text that is not in the form.
-fn unformed() -> Parsed
-    ensures { result ≡ parsed_of none }
-{
-    let b = block_zeros();
-    let t = table_zeros();
-    Parsed {
-        formed: false,
-        block: b,
-        block_len: 0,
-        table: t,
-        table_len: 0,
-    }
+    [0; N]
 }
 
 // What is handed back of a text whose first line has a k outside 1 to 4.
 fn headed(k: i64) -> Parsed
-    ensures { result ≡ parsed_of (some (head_of k)) }
+    ensures { result ≡ filled (head_of k) }
 {
-    let mut b = block_zeros();
-    let t = table_zeros();
-    put_word(&mut b, 0, k);
+    let mut b = zeros();
+    put(&mut b, 0, k);
     Parsed {
-        formed: true,
         block: b,
         block_len: 1,
-        table: t,
+        table: zeros(),
         table_len: 0,
     }
 }
 
-// k, or 0 where it is outside 1 to 4.
-fn k_of(w: i64) -> usize
+// k, if it is from 1 to 4.
+#[tactic(auto, unfolding(crate::specs::Parsed::k_of))]
+fn k_of(w: i64) -> Option<usize>
     ensures { result ≡ k_of w }
 {
-    if w < 1 {
-        return 0;
+    match w {
+        1..=4 => Some(w as usize),
+        _ => None,
     }
-    if w > 4 {
-        return 0;
-    }
-    w as usize
 }
 
-// k, B and R before the records.
-fn put_counts(out: &mut [i64], k: usize, boxes: usize, rules: usize)
-    requires { (k ≤ 4) × (boxes ≤ text_most + 1) × (rules ≤ text_most + 1) }
-    ensures { out.new ≡ sets out.old 0 (pos k ∷ pos boxes ∷ pos rules ∷ []) }
-{
-    put_word(out, 0, k as i64);
-    put_word(out, 1, boxes as i64);
-    put_word(out, 2, rules as i64);
-}
-
-// The lines after the first: B, R and O lines in that order, and nothing else.
-fn read_records(s: &[u8], at: usize, k: usize) -> Parsed
+// The lines after the first: B, R and O lines in that order, and nothing else. k, B and R are put before the records.
+fn read_records(s: &[u8], at: usize, k: usize) -> Option<Parsed>
     requires { RecordsAhead s.now at k }
     ensures { result ≡ parsed_of (records k (parts_from 10 s.now at)) }
 {
-    let mut b = block_zeros();
-    let mut t = table_zeros();
+    let mut b = zeros();
+    let mut t = zeros();
     let bs = lines_into(s, at, b'B', 1 + 2 * k, &mut b, 3);
     let rs = lines_into(s, bs.next, b'R', 3 + 2 * k, &mut b, bs.end);
     let os = lines_into(s, rs.next, b'O', 1 + 2 * k, &mut t, 0);
     if os.next != s.len() {
-        return unformed();
+        return None;
     }
-    put_counts(&mut b, k, bs.count, rs.count);
-    Parsed {
-        formed: true,
+    put_all(&mut b, 0, &[k as i64, bs.count as i64, rs.count as i64]);
+    Some(Parsed {
         block: b,
         block_len: rs.end,
         table: t,
         table_len: os.end,
-    }
+    })
 }
 
 // The words of a text, if it is not too long and in the form.
-pub fn parse_text(text: &[u8]) -> Parsed
+pub fn parse_text(text: &[u8]) -> Option<Parsed>
     ensures { result ≡ parsed_of (read_text text.now) }
 {
     if text.len() > TEXT_BYTES {
-        return unformed();
+        return None;
     }
     let e = find(text, 0, b'\n');
     if e == text.len() {
-        return unformed();
+        return None;
     }
-    let l = read_line(&text[..e], b'K', 1);
-    if !l.whole {
-        return unformed();
-    }
-    let w = l.words;
-    let k = k_of(w[0]);
-    if k == 0 {
-        return headed(w[0]);
-    }
+    let w = read_line(&text[..e], b'K', 1)?[0];
+    let Some(k) = k_of(w) else {
+        return Some(headed(w));
+    };
     read_records(text, e + 1, k)
 }

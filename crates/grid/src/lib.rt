@@ -23,11 +23,7 @@ fn mark_line(marks: &mut [bool], start: usize, n: usize)
     requires { start + n ≤ length marks.old }
     ensures { (m : ℕ) → get_or marks.new m false ≡ (get_or marks.old m false || in_line start n m) }
 {
-    let mut c = 0;
-    while c < n {
-        marks[start + c] = true;
-        c += 1;
-    }
+    marks[start..start + n].fill(true);
 }
 
 // How many lines along the first dimension a brick has.
@@ -35,37 +31,22 @@ fn lines_of(k: usize, widths: [usize; DIMS], brick: Brick) -> usize
     requires { Lies k widths brick }
     ensures { result ≡ lines k brick.size }
 {
-    let size = brick.size;
     let mut n = 1;
-    let mut d = 1;
-    while d < k {
-        n *= size[d];
-        d += 1;
+    for d in 1..k {
+        n *= brick.size[d];
     }
     n
 }
 
-// A quotient and the remainder.
-#[derive(Clone, Copy)]
-struct Division {
-    quotient: usize,
-    remainder: usize,
-}
-
-// A number below the base, as one is in a brick's last dimension, needs no division.
-fn divided(n: usize, base: usize) -> Division
+// The quotient and the remainder. A number below the base, as one is in a brick's last dimension, needs no division.
+fn divided(n: usize, base: usize) -> (usize, usize)
     requires { 1 ≤ base }
-    ensures { (result.quotient ≡ n / base) × (result.remainder ≡ n % base) }
+    ensures { (result.0 ≡ n / base) × (result.1 ≡ n % base) }
 {
     if n < base {
-        return Division {
-            quotient: 0,
-            remainder: n,
-        };
-    }
-    Division {
-        quotient: n / base,
-        remainder: n % base,
+        (0, n)
+    } else {
+        (n / base, n % base)
     }
 }
 
@@ -74,18 +55,14 @@ fn line_start(k: usize, widths: [usize; DIMS], brick: Brick, j: usize) -> usize
     requires { Lies k widths brick }
     ensures { result ≡ line_start k widths brick.from brick.size j }
 {
-    let from = brick.from;
-    let size = brick.size;
-    let mut start = from[0];
+    let mut start = brick.from[0];
     let mut step = widths[0];
     let mut rest = j;
-    let mut d = 1;
-    while d < k {
-        let x = divided(rest, size[d]);
-        start += (from[d] + x.remainder) * step;
-        rest = x.quotient;
+    for d in 1..k {
+        let (quotient, remainder) = divided(rest, brick.size[d]);
+        start += (brick.from[d] + remainder) * step;
+        rest = quotient;
         step *= widths[d];
-        d += 1;
     }
     start
 }
@@ -96,27 +73,21 @@ pub fn mark_brick(marks: &mut [bool; CELLS], k: usize, widths: [usize; DIMS], br
     ensures { (m : ℕ) → m < product_below k (at widths)
         → get_or marks.new m false ≡ (get_or marks.old m false || in_brick k widths brick m) }
 {
-    let n = lines_of(k, widths, brick);
-    let size = brick.size;
-    let mut j = 0;
-    while j < n {
-        mark_line(marks, line_start(k, widths, brick, j), size[0]);
-        j += 1;
+    for j in 0..lines_of(k, widths, brick) {
+        mark_line(marks, line_start(k, widths, brick, j), brick.size[0]);
     }
 }
 
-// How many of the first n cells are marked.
+// How many of the first n cells are marked. A chain that ends in `count` takes six times as long.
 pub fn count(marks: &[bool; CELLS], n: usize) -> usize
     requires { n ≤ cells_most }
     ensures { result ≡ sum_below n (λ m. cond (get_or marks.now m false) 1 0) }
 {
     let mut c = 0;
-    let mut m = 0;
-    while m < n {
-        if marks[m] {
+    for mark in &marks[..n] {
+        if *mark {
             c += 1;
         }
-        m += 1;
     }
     c
 }

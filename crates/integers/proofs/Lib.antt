@@ -2,6 +2,7 @@ pub mod Booleans
 pub mod Ints
 pub mod Machine
 pub mod Below
+pub mod Scans
 pub mod Digits
 pub mod Foremost
 pub mod Ranges

@@ -1,6 +1,6 @@
 -- Lowering number m by half of what it is above the least that is open: what is leaned on (`on-rest`, `on-best`), the split (`middle`), and that
 -- the excess falls (`halved_none`, `halved-by`). Assumes nothing.
-use mathlib.Core.Path.{◌≡◌, refl, sym, subst}
+use mathlib.Core.Path.{◌≡◌, refl, sym, ◌∙◌, subst}
 use mathlib.Core.Logic.{inl, inr}
 use mathlib.Core.Bool.{Bool, true, false}
 use mathlib.Core.List.{List}
@@ -9,7 +9,11 @@ use Prim.Native.Nat.{ℕ, suc, ◌+◌, ◌-◌, ◌/◌, ◌%◌, ◌≤◌, �
 use lib.IntN.{ℤ, pos, ◌+ℤ◌}
 use lib.Signed.{◌≤ℤ◌, ◌<ℤ◌}
 use Rattle.integers.specs.Integer.{up, dn}
+use mir.Facts.{to_z-of_z}
+use mir.Syntax.{w64}
+use mir.Val.{to_z, of_z}
 use Rattle.integers.proofs.Ints.{ints, sum}
+use Rattle.integers.proofs.Machine.{within-fits}
 use Rattle.integers.proofs.Ranges.{nat-diff}
 use Rattle.sheet.specs.Settle.{settle_of}
 use Rattle.sheet.specs.Cuts.{number}
@@ -18,12 +22,21 @@ use Rattle.sheet.proofs.Accepted.{accepted-head, accepted-table}
 use Rattle.sheet.proofs.Numbers.{has-number, number-least, number-open, inside-open}
 use Rattle.sheet.proofs.Places.{places-table, places-open, settle-none, settle-inside, settle-accepted}
 use Rattle.sheet.proofs.Precedes.{position-number, numbers-same}
+use Rattle.splits.specs.declared.Split.{Split}
 use Rattle.splits.specs.Splits.{SplitAt, past_value}
 use Rattle.splits.proofs.Parts.{part-refl, upto-number, past-least}
 use Rattle.layout.specs.Search.{SettledTo}
-use Rattle.layout.specs.Lowering.{OnTable, Probed, found, missing, Lowering, Lowered, excess, Halved}
+use Rattle.layout.specs.Lowering.{OnTable, LeastOf, Probed, found, missing, Lowering, Lowered, excess, Halved}
 use Rattle.layout.proofs.Searches.{small-part}
 use Rattle.layout.proofs.Lowers.{lowered-found, lowered-past}
+
+module _ {block t : List ℤ} {m : ℕ} {s : Split} (is : LeastOf block t m s) where
+  -- the value of a split, as it is read
+  pub least-back : to_z w64 (of_z w64 s.at) ≡ s.at
+  least-back = to_z-of_z (within-fits is.near tt)
+
+  pub least_read : to_z w64 (of_z w64 s.at) ≡ number_at block t m
+  least_read = least-back ∙ is.least
 
 module _ (block : List ℤ) where
   -- ---- what is leaned on

@@ -8,8 +8,9 @@ use mathlib.Core.Option.{none, some}
 use Prim.Native.Nat.{ℕ, ◌+◌, ◌*◌, ◌≤◌}
 use native.Mathlib.Nat.{mul-le-mul}
 use native.Mathlib.Omega.{arith}
-use lib.ListN.{length}
-use lib.IntN.{ℤ}
+use lib.ListN.{length, take, replicate}
+use lib.Seq.{length-take-le}
+use lib.IntN.{ℤ, pos}
 use lib.Signed.{le_z}
 use Rattle.integers.proofs.Booleans.{decide}
 use Rattle.integers.proofs.Ints.{ints}
@@ -19,10 +20,10 @@ use Rattle.sheet.specs.Settle.{settle_of}
 use Rattle.sheet.specs.Refusal.{refusal}
 use Rattle.sheet.specs.Cuts.{number}
 use Rattle.sheet.specs.FirstLayout.{Places}
-use Rattle.sheet.proofs.Accepted.{rows_same, accepted-head, accepted-rows}
+use Rattle.sheet.proofs.Accepted.{rows_same, accepted-head, accepted-rows, accepted-table}
 use Rattle.sheet.proofs.Places.{settle-keeps, settle-none, settle-places}
-use Rattle.splits.specs.Splits.{SplitAt, upto_value, past_value, Part}
-use Rattle.splits.proofs.Parts.{part-refl, part-trans, in-upto, in-past, past-part}
+use Rattle.splits.specs.Splits.{OnNumber, SplitAt, upto_value, past_value, Part}
+use Rattle.splits.proofs.Parts.{part-refl, part-trans, upto-part, in-upto, in-past, past-part}
 use Rattle.layout.specs.Search.{Small, NoPlacement}
 use Rattle.layout.proofs.Settles.{settled-part}
 
@@ -46,6 +47,17 @@ module _ (block : List ℤ) where
       let h = accepted-head block t s.accepted in
       let few_words : 1 + 2 * axes block ≤ 9 = let f = h.few_axes in omega arith in
       omega (arith, (accepted-rows block t s.accepted).long, mul-le-mul s.few few_words)
+
+  -- the zeros of an array, as many as the table has words
+  pub small-room : {t : List ℤ} → Small block t → length (take (length t) (replicate layout_table_most (pos 0))) ≡ length t
+  small-room s = length-take-le _ (replicate layout_table_most (pos 0)) (small-short s)
+
+  -- a number that can be split, and the part that has its values up to the split
+  pub split-on : {t : List ℤ} {i c : ℕ} {z : ℤ} → refusal block t ≡ 0 → SplitAt block t i c z → OnNumber block t i c
+  split-on {t} accepted x = record { head = accepted-head block t accepted; table = accepted-table block t accepted; has = x.has }
+
+  pub split-part : {t p : List ℤ} {i c : ℕ} {z : ℤ} → refusal block t ≡ 0 → SplitAt block t i c z → p ≡ upto_value block t i c z → Part block t p
+  split-part {t} {i = i} {c = c} {z = z} accepted x e = subst (Part block t) (sym e) (upto-part block t accepted i c x.has z x.from)
 
   module _ {t u : List ℤ} (k : Keeps block t u) where
     abbrev accepted : refusal block u ≡ 0

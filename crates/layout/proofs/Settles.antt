@@ -1,52 +1,38 @@
 -- What the answers of `settle::settle` say of an accepted sheet. Assumes nothing.
-use mathlib.Core.Path.{◌≡◌, refl, sym, ap, ap₂, ◌∙◌}
+use mathlib.Core.Path.{◌≡◌, refl, sym, ap, ◌∙◌}
+use mathlib.Core.Bool.{Bool, true, false}
 use mathlib.Core.List.{List}
 use mathlib.Core.Option.{Option, none, some}
 use Prim.Native.Nat.{ℕ}
-use native.Mathlib.Omega.{arith}
 use lib.IntN.{ℤ}
+use Rattle.std.specs.Prelude.{Result, Ok}
+use Rattle.std.specs.Result.{result_unwrap_or}
 use Rattle.integers.specs.Below.{value_or}
+use Rattle.integers.proofs.Booleans.{clash}
 use Rattle.sheet.specs.Refusal.{refusal}
 use Rattle.sheet.specs.Settle.{settle_of}
-use Rattle.sheet.specs.Answer.{settle_answer, table_after}
-use Rattle.sheet.specs.declared.Settling.{Settling}
-use Rattle.sheet.specs.declared.Settling.TheVariants.{Settled, NoLayout, Refused}
+use Rattle.sheet.specs.Answer.{is_found, table_after}
+use Rattle.sheet.specs.declared.Refusal.{Refusal}
+use Rattle.sheet.proofs.Answer.{answered}
 use Rattle.sheet.proofs.Inside.{inside-trans}
 use Rattle.sheet.proofs.Places.{settle-accepted, settle-inside}
 use Rattle.settle.specs.Demand.{Promise}
 use Rattle.splits.specs.Splits.{Part}
+use Rattle.layout.specs.Search.{SettledTo}
 
-module _ (block t : List ℤ) (accepted : refusal block t ≡ 0) {finding : Settling} {v : List ℤ} (p : Promise block t finding v) where
-  -- the promise, where nothing is found and where a table is
-  abbrev Says : Option (List ℤ) → Type 0
-  Says none = finding ≡ NoLayout
-  Says (some u) = (finding ≡ Settled) × (u ≡ v)
+-- whether a settled table was found, and the table left, where the definition finds o
+found-by : (block t : List ℤ) {r : Bool} {v : List ℤ} (o : Option (List ℤ)) → settle_of block t ≡ o → r ≡ is_found o → v ≡ table_after 0 t o
+    → SettledTo block t r v
+unfolding is_found table_after value_or
+found-by block t none e found left = record { yes = λ k. clash k found; no = λ k. e }
+found-by block t (some u) e found left = record { yes = λ k. e ∙ ap some (sym left); no = λ k. clash found k }
 
-  says : (o : Option (List ℤ)) → settle_of block t ≡ o → Says o
-  unfolding settle_answer table_after value_or
-  says none e = p.0 ∙ ap₂ settle_answer accepted e
-  says (some u) e = (p.0 ∙ ap₂ settle_answer accepted e, sym (p.1 ∙ ap₂ (λ (g : ℕ) (o : Option (List ℤ)). table_after g t o) accepted e))
-
-  pub found-settled : finding ≡ Settled → settle_of block t ≡ some v
-  found-settled q = by (settle_of block t) refl (says (settle_of block t) refl)
-    where
-      by : (o : Option (List ℤ)) → settle_of block t ≡ o → Says o → settle_of block t ≡ some v
-      by none e s = let z : ◌≡◌ {A = ℕ} 0 1 = cc in absurd (omega arith)
-      by (some u) e s = e ∙ ap some s.1
-
-  pub found-no-layout : finding ≡ NoLayout → settle_of block t ≡ none
-  found-no-layout q = by (settle_of block t) refl (says (settle_of block t) refl)
-    where
-      by : (o : Option (List ℤ)) → settle_of block t ≡ o → Says o → settle_of block t ≡ none
-      by none e s = e
-      by (some u) e s = let z : ◌≡◌ {A = ℕ} 0 1 = cc in absurd (omega arith)
-
-  pub never-refused : {g : ℤ} → finding ≡ Refused g → ⊥
-  never-refused {g} q = by (settle_of block t) (says (settle_of block t) refl)
-    where
-      by : (o : Option (List ℤ)) → Says o → ⊥
-      by none s = let z : ◌≡◌ {A = ℕ} 0 1 = cc in omega arith
-      by (some u) s = let z : ◌≡◌ {A = ℕ} 0 1 = cc in omega arith
+pub settled-to : (block t : List ℤ) → refusal block t ≡ 0 → {finding : Result Bool Refusal} {r : Bool} {v : List ℤ} → Promise block t finding v
+    → r ≡ result_unwrap_or finding false → SettledTo block t r v
+settled-to block t accepted p e =
+    found-by block t (settle_of block t) refl
+    (e ∙ ap (λ (q : Result Bool Refusal). result_unwrap_or q false) (p.0 ∙ answered _ accepted))
+    (p.1 ∙ ap (λ (g : ℕ). table_after g t (settle_of block t)) accepted)
 
 -- ---- what settling leaves is a part of the table that keeps every placement
 module _ (block t : List ℤ) (accepted : refusal block t ≡ 0) (v : List ℤ) (e : settle_of block t ≡ some v) where

@@ -46,14 +46,14 @@ fn probe(
         × (length best.old ≡ length rest.old) }
     ensures { Probed block.now rest.old best.old s rest.new best.new }
 {
-    let n = rest.len();
-    let mut part = [0i64; LAYOUT_WORDS];
-    splits::copy_upto(block, rest, &mut part[..n], s);
-    if find::place(block, &mut part[..n], failures) {
-        words::copy(best, &part[..n]);
-        return;
+    let mut words = [0i64; LAYOUT_WORDS];
+    let part = &mut words[..rest.len()];
+    splits::copy_upto(block, rest, part, s);
+    if find::place(block, part, failures) {
+        best.copy_from_slice(part);
+    } else {
+        splits::keep_past(block, rest, s);
     }
-    splits::keep_past(block, rest, s);
 }
 
 // Lowers number m by half of what it is above the least value that is open in the rest: of the best, or where that cannot be, of the rest.
@@ -73,9 +73,7 @@ fn halve(
         return;
     }
     let at = splits::halfway(low.at, high.at);
-    let row = low.row;
-    let column = low.column;
-    probe(block, rest, best, failures, Split { row, column, at });
+    probe(block, rest, best, failures, Split { at, ..low });
 }
 
 // Lowers number m until the best has the least value of it, and fixes it in the rest.
@@ -104,10 +102,8 @@ fn lower_all(block: &[i64], rest: &mut [i64], best: &mut [i64], failures: &mut [
         rest.new best.new }
 {
     let count = words::rows_of(block, rest) * (words::axes_of(block) + 1);
-    let mut m = 0;
-    while m < count {
+    for m in 0..count {
         lower(block, rest, best, failures, m);
-        m += 1;
     }
 }
 
@@ -121,8 +117,8 @@ pub(crate) fn to_first(
     requires { Small block.now table.now × Places block.now table.now best.old }
     ensures { FirstLayout block.now table.now (some best.new) }
 {
-    let n = table.len();
-    let mut rest = [0i64; LAYOUT_WORDS];
-    words::copy(&mut rest[..n], table);
-    lower_all(block, &mut rest[..n], best, failures);
+    let mut words = [0i64; LAYOUT_WORDS];
+    let rest = &mut words[..table.len()];
+    rest.copy_from_slice(table);
+    lower_all(block, rest, best, failures);
 }

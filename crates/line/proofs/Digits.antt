@@ -85,18 +85,22 @@ unfolding positive
 positive-none [] h = refl
 positive-none (b ∷ bs) h = absurd (omega arith)
 
-pub positive-bad : (s : List ℕ) → 0 < length s → between 49 57 (get_or s 0 0) ≡ false → positive s ≡ none
-positive-bad [] h e = absurd (omega arith)
-positive-bad (b ∷ bs) h e = positive-cons b bs ∙ rw e
+pub positive-below : (s : List ℕ) → get_or s 0 0 < 49 → positive s ≡ none
+positive-below [] h = positive-none [] refl
+positive-below (b ∷ bs) h = positive-cons b bs ∙ rw (lt-leb 49 b h)
+
+pub positive-above : (s : List ℕ) → 57 < get_or s 0 0 → positive s ≡ none
+positive-above [] h = positive-none [] refl
+positive-above (b ∷ bs) h = positive-cons b bs ∙ rw (lt-leb b 57 h, and-false)
 
 pub positive-long : (s : List ℕ) → 10 < length s → positive s ≡ none
 positive-long [] h = absurd (omega arith)
 positive-long (b ∷ bs) h = positive-cons b bs ∙ (let q : 9 < length bs = omega arith in rw (lt-leb (length bs) 9 q, and-false))
 
-pub positive-good : (s : List ℕ) → 0 < length s → between 49 57 (get_or s 0 0) ≡ true → length s ≤ 10
-    → positive s ≡ digits_from (get_or s 0 0 - 48) (drop 1 s)
+pub positive-good : (s : List ℕ) → 49 ≤ get_or s 0 0 → get_or s 0 0 ≤ 57 → length s ≤ 10 → positive s ≡ digits_from (get_or s 0 0 - 48) (drop 1 s)
 positive-good [] h e g = absurd (omega arith)
-positive-good (b ∷ bs) h e g = positive-cons b bs ∙ (let q : length bs ≤ 9 = omega arith in rw (e, le-leb (length bs) 9 q))
+positive-good (b ∷ bs) h e g =
+    positive-cons b bs ∙ (let q : length bs ≤ 9 = omega arith in rw (le-leb 49 b h, le-leb b 57 e, le-leb (length bs) 9 q))
 
 pub positive-small : (s : List ℕ) (v : ℕ) → positive s ≡ some v → v < 10000000000
 unfolding positive

@@ -12,12 +12,13 @@ use lib.Dec.{eqb}
 use lib.IntN.{ℤ}
 use lib.ListN.{length, get_or, take, drop, set}
 use lib.Seq.{sets, length-take-le, get_or-take}
+use Rattle.std.specs.Prelude as code
+use Rattle.std.specs.Prelude.{Some, None}
 use Rattle.integers.proofs.Booleans.{both_ways, and-true}
 use Rattle.sheet.specs.Layout.{record_most}
 use Rattle.sheet.specs.Text.{split, number, numbers, cons, fields_of, line}
 use Rattle.line.specs.Parts.{until, parts_from, numbers_in}
 use Rattle.line.specs.Answers.{zeros, placed, line_of}
-use Rattle.line.specs.declared.Line.{Line}
 use Rattle.line.proofs.Parts.{parts_none, parts_all, parts_next, part-ends}
 
 -- ---- n fields that are numbers
@@ -54,16 +55,16 @@ numbers-end = refl
 
 -- ---- a walk over the fields: the words before place i are there, and o gives those from i on
 
-unfoldable pub line_onto : List ℤ → ℕ → Option (List ℤ) → Line
-line_onto w i none = line_of none
-line_onto w i (some ws) = record { whole = true; words = sets w i ws }
+unfoldable pub line_onto : List ℤ → ℕ → Option (List ℤ) → code.Option (List ℤ)
+line_onto w i none = None
+line_onto w i (some ws) = Some (sets w i ws)
 
 onto-more : (w : List ℤ) (i : ℕ) (v : ℤ) (o : Option (List ℤ)) → line_onto (set w i v) (i + 1) o ≡ line_onto w i (cons (some v) o)
 unfolding line_onto cons
 onto-more w i v none = refl
 onto-more w i v (some ws) = rw add-one
 
-onto-bad : (w : List ℤ) (i : ℕ) (o : Option (List ℤ)) → line_of none ≡ line_onto w i (cons none o)
+onto-bad : (w : List ℤ) (i : ℕ) (o : Option (List ℤ)) → None ≡ line_onto w i (cons none o)
 unfolding line_onto cons
 onto-bad w i o = refl
 
@@ -74,10 +75,10 @@ onto-first (some ws) = refl
 
 -- what the fields from p on give, put from place i of n on
 module _ (s : List ℕ) (n p : ℕ) (w : List ℤ) (i : ℕ) where
-  abbrev pub walked : Line
+  abbrev pub walked : code.Option (List ℤ)
   walked = line_onto w i (numbers_in (n - i) (parts_from 44 s p))
 
-  pub fields-few : i < n → length s < p → line_of none ≡ walked
+  pub fields-few : i < n → length s < p → None ≡ walked
   unfolding line_onto
   fields-few h g =
       let q : n - i ≡ suc (n - (i + 1)) = omega arith in
@@ -85,7 +86,7 @@ module _ (s : List ℕ) (n p : ℕ) (w : List ℤ) (i : ℕ) where
       ∙ ap (λ (m : ℕ). line_onto w i (numbers_in m [])) q
       ∙ ap (line_onto w i) (numbers-few (n - (i + 1))))
 
-  pub fields-end : n ≤ i → length s < p → record { whole = true; words = w } ≡ walked
+  pub fields-end : n ≤ i → length s < p → Some w ≡ walked
   unfolding line_onto
   fields-end h g =
       let q : n - i ≡ 0 = omega arith in
@@ -101,7 +102,7 @@ module _ (s : List ℕ) (n p : ℕ) (w : List ℤ) (i : ℕ) where
     here : parts_from 44 s p ≡ field ∷ parts_from 44 s (e + 1)
     here = parts_next 44 s h k
 
-    pub fields-over : n ≤ i → line_of none ≡ walked
+    pub fields-over : n ≤ i → None ≡ walked
     unfolding line_onto
     fields-over g =
         let q : n - i ≡ 0 = omega arith in
@@ -117,7 +118,7 @@ module _ (s : List ℕ) (n p : ℕ) (w : List ℤ) (i : ℕ) where
           ∙ ap (λ (fs : List (List ℕ)). line_onto w i (numbers_in (suc (n - (i + 1))) fs)) here
           ∙ ap (line_onto w i) (numbers_more (n - (i + 1)) field (parts_from 44 s (e + 1)))
 
-      pub fields-bad : number field ≡ none → line_of none ≡ walked
+      pub fields-bad : number field ≡ none → None ≡ walked
       fields-bad f = onto-bad w i _
           ∙ sym (next ∙ ap (λ (o : Option ℤ). line_onto w i (cons o (numbers_in (n - (i + 1)) (parts_from 44 s (e + 1))))) f)
 

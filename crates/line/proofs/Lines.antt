@@ -1,6 +1,5 @@
 -- The lines of one letter: `lines_of` by its first line, and a walk over them that stores their words. Assumes nothing.
 use mathlib.Core.Path.{◌≡◌, refl, sym, ap, ◌∙◌}
-use mathlib.Core.Bool.{true, false}
 use mathlib.Core.List.{List, [], ◌∷◌}
 use mathlib.Core.Option.{Option, none, some}
 use Prim.Native.Nat.{ℕ, ◌+◌, ◌-◌, ◌*◌, ◌≤◌, ◌<◌}
@@ -8,13 +7,13 @@ use native.Mathlib.Omega.{arith}
 use native.Mathlib.Nat.{zero-add, add-zero, suc-mul}
 use lib.IntN.{ℤ}
 use lib.ListN.{length, take, drop, length-append}
+use Rattle.std.specs.Prelude.{Some, None}
 use Rattle.stores.specs.Put.{Put}
 use Rattle.stores.proofs.Puts.{Left, left-all, left-more, left-done, put-none, put_as}
 use Rattle.sheet.specs.Layout.{record_most}
 use Rattle.sheet.specs.Text.{line, lines_of, Lines, add_line}
 use Rattle.line.specs.Parts.{until, parts_from}
 use Rattle.line.specs.Answers.{line_of, lines_from, LinesAhead, LinesRead}
-use Rattle.line.specs.declared.Line.{Line}
 use Rattle.line.proofs.Parts.{parts_none, parts_next, part-ends}
 use Rattle.line.proofs.Fields.{line-length}
 use Rattle.line.proofs.Placed.{take-placed, no_words, words_of}
@@ -92,25 +91,27 @@ module _ (s : List ℕ) (at letter n : ℕ) (before : List ℤ) (to : ℕ) where
     pub walk_end : length s < p → Done
     walk_end h = let e = parts_none 10 s h in stop (ap (lines_of letter n) e ∙ lines_none letter n ∙ ap no_lines (sym e))
 
-    -- the next line ends at e, and r is what the code has of it
-    module _ (e : ℕ) (h : p ≤ length s) (q : e ≡ p + length (until 10 (drop p s)))
-        (r : Line) (a : r ≡ line_of (line letter n (take (e - p) (drop p s)))) where
+    -- the next line ends at e
+    module _ (e : ℕ) (h : p ≤ length s) (q : e ≡ p + length (until 10 (drop p s))) where
+      abbrev next : Option (List ℤ)
+      next = line letter n (take (e - p) (drop p s))
+
       here : parts_from 10 s p ≡ take (e - p) (drop p s) ∷ parts_from 10 s (e + 1)
       here = parts_next 10 s h q
 
-      pub walk-stop : r.whole ≡ false → Done
-      walk-stop d = stop (ap (lines_of letter n) here ∙ lines-bad letter n _ _ (no_words _ r a d) ∙ ap no_lines (sym here))
+      pub walk-stop : line_of next ≡ None → Done
+      walk-stop d = stop (ap (lines_of letter n) here ∙ lines-bad letter n _ _ (no_words next d) ∙ ap no_lines (sym here))
 
-      module _ (d : r.whole ≡ true) (f : n ≤ record_most) where
-        stored : take n r.words ≡ (words_of _ r a d).words
+      module _ {r : List ℤ} (d : line_of next ≡ Some r) (f : n ≤ record_most) where
+        stored : take n r ≡ (words_of next d).words
         stored =
-            let w = words_of _ r a d in
+            let w = words_of next d in
             ap (take n) w.stored ∙ take-placed record_most w.words (sym (line-length letter n _ w.words w.are)) f
 
-        pub walk_more : {o : List ℤ} {u : ℕ} → Put out t (take n r.words) u o → Walk o (c + 1) (e + 1) u
+        pub walk_more : {o : List ℤ} {u : ℕ} → Put out t (take n r) u o → Walk o (c + 1) (e + 1) u
         unfolding add_line
         walk_more {o} {u} b =
-            let w = words_of _ r a d in
+            let w = words_of next d in
             let size = line-length letter n _ w.words w.are in
             let more : from p ≡ add_line w.words (from (e + 1)) = ap (lines_of letter n) here ∙ lines_more letter n _ _ w.words w.are in
             let put = put_as stored b in

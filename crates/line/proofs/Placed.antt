@@ -1,6 +1,5 @@
 -- Words in their places with zeros past them, and what a line's answer tells. Assumes nothing.
-use mathlib.Core.Path.{◌≡◌, refl, sym, ap, ◌∙◌}
-use mathlib.Core.Bool.{true, false}
+use mathlib.Core.Path.{◌≡◌, refl, ap, ◌∙◌}
 use mathlib.Core.List.{List}
 use mathlib.Core.Option.{Option, none, some}
 use Prim.Native.Nat.{ℕ, ◌≤◌}
@@ -8,10 +7,10 @@ use native.Mathlib.Omega.{arith}
 use lib.IntN.{ℤ, pos}
 use lib.ListN.{length, take, length-replicate}
 use lib.Seq.{length-sets}
+use Rattle.std.specs.Prelude.{Some, None}
 use Rattle.stores.proofs.Stores.{take-sets}
 use Rattle.sheet.specs.Layout.{record_most}
 use Rattle.line.specs.Answers.{zeros, placed, line_of}
-use Rattle.line.specs.declared.Line.{Line}
 
 pub length-zeros : (n : ℕ) → length (zeros n) ≡ n
 unfolding zeros
@@ -28,17 +27,17 @@ take-placed n ws {m} e h =
 
 -- ---- a line's answer
 
-pub no_words : (o : Option (List ℤ)) (l : Line) → l ≡ line_of o → l.whole ≡ false → o ≡ none
+pub no_words : (o : Option (List ℤ)) → line_of o ≡ None → o ≡ none
 unfolding line_of
-no_words none l e h = refl
-no_words (some ws) l e h = let q = sym (ap (λ (x : Line). x.whole) e) ∙ h in let z : ◌≡◌ {A = ℕ} 0 1 = cc in absurd (omega arith)
+no_words none e = refl
+no_words (some ws) e = cc
 
-pub record Words (o : Option (List ℤ)) (l : Line) : Type 0 where
+pub record Words (o : Option (List ℤ)) (w : List ℤ) : Type 0 where
   pub words : List ℤ
   pub are : o ≡ some words
-  pub stored : l.words ≡ placed record_most words
+  pub stored : w ≡ placed record_most words
 
-pub words_of : (o : Option (List ℤ)) (l : Line) → l ≡ line_of o → l.whole ≡ true → Words o l
+pub words_of : (o : Option (List ℤ)) {w : List ℤ} → line_of o ≡ Some w → Words o w
 unfolding line_of
-words_of none l e h = let q = sym (ap (λ (x : Line). x.whole) e) ∙ h in let z : ◌≡◌ {A = ℕ} 0 1 = cc in absurd (omega arith)
-words_of (some ws) l e h = record { words = ws; are = refl; stored = ap (λ (x : Line). x.words) e }
+words_of none e = absurd (cc)
+words_of (some ws) e = record { words = ws; are = refl; stored = cc }

@@ -1,19 +1,18 @@
--- What the answers of the code stand for: a number, a line, the lines of one letter; and what reading lines needs. Assumes nothing.
-use Rattle.std.specs.Prelude.{◌≡◌, true, false, List, ℕ, ◌+◌, ◌*◌, ◌≤◌, ℤ, pos, length, replicate}
-use Rattle.std.proofs.Math.Option.{Option, none, some}
+-- What the answers of the code stand for: a number, a line, the lines of one letter; and what reading lines needs. The definitions' option
+-- is mathlib's, and the code's is std's. Assumes nothing.
+use Rattle.std.specs.Prelude.{◌≡◌, List, ℕ, ◌+◌, ◌*◌, ◌≤◌, ℤ, pos, length, replicate, Option, Some, None}
+use Rattle.std.proofs.Math.Option as math
+use Rattle.std.proofs.Math.Option.{none, some}
 use Rattle.std.proofs.lemmas.List.Edits.{sets}
 use Rattle.sheet.specs.Layout.{record_most}
 use Rattle.sheet.specs.Text.{lines_of, Lines}
 use Rattle.stores.specs.Put.{Put}
 use Rattle.line.specs.Parts.{parts_from}
-use Rattle.line.specs.declared.number.Number.{Number}
-use Rattle.line.specs.declared.number.Number.TheVariants as N
-use Rattle.line.specs.declared.Line.{Line}
 use Rattle.line.specs.declared.Passed.{Passed}
 
-abbrev pub number_of : Option ℤ → Number
-number_of none = N.Missing
-number_of (some z) = N.Found z
+abbrev pub number_of : math.Option ℤ → Option ℤ
+number_of none = None
+number_of (some z) = Some z
 
 unfoldable pub zeros : ℕ → List ℤ
 zeros n = replicate n (pos 0)
@@ -22,9 +21,10 @@ zeros n = replicate n (pos 0)
 unfoldable pub placed : ℕ → List ℤ → List ℤ
 placed n ws = sets (zeros n) 0 ws
 
-unfoldable pub line_of : Option (List ℤ) → Line
-line_of none = record { whole = false; words = zeros record_most }
-line_of (some ws) = record { whole = true; words = placed record_most ws }
+-- a line's words, with zeros past them
+unfoldable pub line_of : math.Option (List ℤ) → Option (List ℤ)
+line_of none = None
+line_of (some ws) = Some (placed record_most ws)
 
 -- the most bytes of a text
 abbrev pub text_most : ℕ

@@ -3,26 +3,19 @@
 #![tactic(auto)]
 
 ghost use Rattle.std.specs.Prelude.{◌≡◌, ◌+◌, length, drop};
-ghost use Rattle.std.proofs.Math.Option.{none};
 ghost use Rattle.sheet.specs.Text.{line};
 ghost use Rattle.line.specs.Parts.{until, parts_from, numbers_in};
 ghost use Rattle.line.specs.Answers.{line_of, LinesAhead, LinesRead};
 
 mod number; // number.rt: the number that a field spells
 
-use number::{Number, read_number};
+use number::read_number;
 use sheet::RECORD_WORDS;
-use stores::{put_word, put_words};
+use std::cmp::max;
+use stores::{put, put_all};
 
 // The most bytes of a text (specs/Answers has it as `text_most`).
 pub const TEXT_BYTES: usize = 65536;
-
-// Whether a line has the form, and its words: zeros past them, and all zeros of a line that has not.
-#[derive(Clone, Copy)]
-pub struct Line {
-    pub whole: bool,
-    pub words: [i64; RECORD_WORDS],
-}
 
 // Lines that were read: how many, where the next one starts, and the place past their words. After a last line that is not closed,
 // the next one starts one past the text's end.
@@ -37,63 +30,41 @@ pub struct Passed {
 pub fn find(s: &[u8], from: usize, b: u8) -> usize
     ensures { result ≡ from + length (until b (drop from s.now)) }
 {
-    let mut i = from;
-    while i < s.len() {
+    for i in from..s.len() {
         if s[i] == b {
             return i;
         }
-        i += 1;
     }
-    i
-}
-
-// A line that has not the form.
-fn no_line() -> Line
-    ensures { result ≡ line_of none }
-{
-    Line {
-        whole: false,
-        words: [0i64; RECORD_WORDS],
-    }
+    max(from, s.len())
 }
 
 // The fields from `from` on: `n` numbers, no fewer and no more.
-fn read_fields(s: &[u8], from: usize, n: usize) -> Line
+fn read_fields(s: &[u8], from: usize, n: usize) -> Option<[i64; RECORD_WORDS]>
     ensures { result ≡ line_of (numbers_in n (parts_from 44 s.now from)) }
 {
-    let mut w = [0i64; RECORD_WORDS];
+    let mut w = [0; RECORD_WORDS];
     let mut p = from;
-    let mut i: usize = 0;
-    while i < n {
+    for i in 0..n {
         if p > s.len() {
-            return no_line();
+            return None;
         }
         let e = find(s, p, b',');
-        let Number::Found(v) = read_number(&s[p..e]) else {
-            return no_line();
-        };
-        put_word(&mut w, i, v);
-        i += 1;
+        let v = read_number(&s[p..e])?;
+        put(&mut w, i, v);
         p = e + 1;
     }
     if p <= s.len() {
-        return no_line();
+        return None;
     }
-    Line {
-        whole: true,
-        words: w,
-    }
+    Some(w)
 }
 
-// A line: the letter alone in the first field, and `n` numbers.
-pub fn read_line(s: &[u8], letter: u8, n: usize) -> Line
+// A line: the letter alone in the first field, and `n` numbers. Its words, and zeros past them, if it has the form.
+pub fn read_line(s: &[u8], letter: u8, n: usize) -> Option<[i64; RECORD_WORDS]>
     ensures { result ≡ line_of (line letter n s.now) }
 {
-    if find(s, 0, b',') != 1 {
-        return no_line();
-    }
-    if s[0] != letter {
-        return no_line();
+    if find(s, 0, b',') != 1 || s[0] != letter {
+        return None;
     }
     read_fields(s, 2, n)
 }
@@ -103,17 +74,16 @@ pub fn lines_into(s: &[u8], at: usize, letter: u8, n: usize, out: &mut [i64], to
     requires { LinesAhead s.now at n to }
     ensures { LinesRead s.now at letter n out.old to result out.new }
 {
-    let mut c: usize = 0;
+    let mut c = 0;
     let mut p = at;
     let mut t = to;
+    // Where a line ends says where the next one starts: no range counts them.
     while p <= s.len() {
         let e = find(s, p, b'\n');
-        let l = read_line(&s[p..e], letter, n);
-        if !l.whole {
+        let Some(w) = read_line(&s[p..e], letter, n) else {
             break;
-        }
-        let w = l.words;
-        t = put_words(out, t, &w[..n]);
+        };
+        t = put_all(out, t, &w[..n]);
         c += 1;
         p = e + 1;
     }

@@ -2,17 +2,15 @@
 -- Assumes nothing.
 use mathlib.Core.Path.{◌≡◌, refl, sym, ap, ◌∙◌}
 use mathlib.Core.List.{List, [], ◌∷◌, ◌++◌}
-use Prim.Native.Nat.{ℕ, suc, ◌+◌, ◌-◌, ◌/◌, ◌%◌, ◌^◌, ◌≤◌, ◌<◌}
+use Prim.Native.Nat.{ℕ, suc, ◌+◌, ◌-◌, ◌/◌, ◌%◌, ◌≤◌, ◌<◌}
 use native.Mathlib.Omega.{arith}
 use native.Mathlib.Numerals.{add-one}
 use borrow.Author.Tests.{lt-ltb, le-ltb}
-use lib.IntN.{ℤ, pos, negsuc, nat_abs, ◌+ℤ◌, ◌-ℤ◌}
+use lib.IntN.{ℤ, pos, negsuc, nat_abs}
 use lib.Signed.{◌<ℤ◌, ◌≤ℤ◌}
 use lib.ListN.{length, drop, set, length-set}
 use lib.Seq.{drop-cons, drop-set-lt, get_or-set_same}
-use mir.Syntax.{w64}
-use mir.Val.{SFits}
-use Rattle.integers.proofs.Ints.{ints, lin, v, ◌⊕◌, diff}
+use Rattle.integers.proofs.Ints.{ints}
 use Rattle.sheet.specs.Text.{decimal, shown}
 
 pub decimal-none : (n : ℕ) (bs : List ℕ) → decimal 0 n bs ≡ bs
@@ -73,19 +71,3 @@ shown-below (negsuc n) h = refl
 pub shown-above : (z : ℤ) → pos 0 ≤ℤ z → shown z ≡ shown (pos (nat_abs z))
 shown-above (pos n) h = refl
 shown-above (negsuc n) h = absurd (omega ints)
-
--- ---- the magnitude of a negative word, found with no sum that leaves the words
-
-pub record Below (z : ℤ) : Type 0 where
-  pub n : ℕ
-  pub magnitude : n + 1 ≡ nat_abs z
-  pub next : SFits w64 (z +ℤ pos 1)
-  pub turned : pos 0 -ℤ (z +ℤ pos 1) ≡ pos n
-  pub small : n < 2 ^ 63
-
-pub below : (z : ℤ) → SFits w64 z → z <ℤ pos 0 → Below z
-below (pos n) f h = absurd (omega ints)
-below (negsuc n) f h =
-    let next = lin (v (negsuc n) ⊕ v (pos 1)) in
-    let turned = diff (pos 0) (negsuc n +ℤ pos 1) in
-    record { n = n; magnitude = omega arith; next = omega ints; turned = omega ints; small = f.sfits }

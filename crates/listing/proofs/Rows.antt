@@ -1,19 +1,21 @@
 -- The lines of a listing, one word and one row at a time; and a row's length, cut off where no row has room. Assumes nothing.
 use mathlib.Core.Path.{◌≡◌, refl, sym, ap, ◌∙◌}
-use mathlib.Core.Logic.{⊎_elim}
+use mathlib.Core.Logic.{◌⊎◌, ⊎_elim}
 use mathlib.Core.List.{List, [], ◌∷◌, ◌++◌}
 use mathlib.Core.Option.{some}
-use Prim.Native.Nat.{ℕ, suc, ◌+◌, ◌-◌, ◌*◌, ◌/◌, ◌≤◌, ◌<◌, min}
+use Prim.Native.Nat.{ℕ, zero, suc, ◌+◌, ◌-◌, ◌*◌, ◌/◌, ◌≤◌, ◌<◌, min}
 use native.Mathlib.Omega.{arith}
 use native.Mathlib.Nat.{suc-mul, div-eq_of_lt}
 use lib.IntN.{ℤ, pos}
 use lib.Signed.{◌<ℤ◌}
-use lib.ListN.{length, get_or, take, drop, length-drop, drop_of_length-le, get_or-eq_default}
-use lib.Seq.{drop-cons, drop-drop, length-take-le}
+use lib.ListN.{length, get_or, take, drop, length-append, drop_of_length-le, get_or-eq_default}
+use lib.Seq.{drop-cons, take_at, drop_at}
 use Rattle.integers.specs.Integer.{nat}
 use Rattle.integers.proofs.Ints.{ints, disjoint}
 use Rattle.integers.proofs.Below.{below_or}
-use Rattle.stores.proofs.Puts.{Left, left-all}
+use Rattle.stores.specs.Put.{Put}
+use Rattle.stores.proofs.Puts.{Left, left-all, left-more, left-done, put_as, put-none}
+use Rattle.listing.proofs.Sizes.{shown-few, commas-few}
 use Rattle.sheet.specs.Layout.{table_most, dims, axes, row_len, rows}
 use Rattle.sheet.specs.Text.{ascii, shown, commas, row_lines, printed_for}
 
@@ -40,38 +42,51 @@ rows-one : (len n m : ℕ) (t : List ℤ) → row_lines len (suc n) m t
 unfolding row_lines
 rows-one len n m t = refl
 
-pub rows_more : (len n m start : ℕ) (t : List ℤ) → m < n
-    → row_lines len (n - m) m (drop start t) ≡ (shown (pos (m + 1)) ++ commas (take len (drop start t)))
-    ++ row_lines len (n - (m + 1)) (m + 1) (drop (start + len) t)
-rows_more len n m start t h =
-    let q : n - m ≡ suc (n - (m + 1)) = omega arith in
-    let r : suc m ≡ m + 1 = omega arith in
-    let row = take len (drop start t) in
-    ap (λ (j : ℕ). row_lines len j m (drop start t)) q
-    ∙ rows-one len (n - (m + 1)) m (drop start t)
-    ∙ ap (λ (k : ℕ). (shown (pos k) ++ commas row) ++ row_lines len (n - (m + 1)) k (drop len (drop start t))) r
-    ∙ ap (λ (l : List ℤ). (shown (pos (m + 1)) ++ commas row) ++ row_lines len (n - (m + 1)) (m + 1) l) (drop-drop len start t)
+rows-few : (i len size : ℕ) → i * len ≤ size → size < len → i ≡ 0
+rows-few zero len size h g = refl
+rows-few (suc i) len size h g = let mul = suc-mul i len in absurd (omega arith)
 
-pub rows-first : (o : List ℕ) (at len n : ℕ) (t : List ℤ) → Left o at (row_lines len n 0 t) o at (row_lines len (n - 0) 0 (drop 0 t))
-rows-first o at len n t = let e : n - 0 ≡ n = omega arith in rw e (left-all o at (row_lines len n 0 t))
+-- the rows from number m on, in the words `rest`, are left to put at p; those before them stand in `out`
+pub record RowsLeft (first : List ℕ) (at len n : ℕ) (t : List ℤ) (out : List ℕ) (p m : ℕ) (rest : List ℤ) : Type 0 where
+  pub put : Left first at (row_lines len n 0 t) out p (row_lines len (n - m) m rest)
+  pub short : p + 22 * length rest ≤ at + 22 * length t + 22 * m
+  pub room : (n - m) * len ≤ length rest
+  pub count : m ≤ n
 
--- the next of the rows that are left has its room, and so have those after it
-pub row_room : (start len n m size : ℕ) → m < n → start + (n - m) * len ≤ size → (start + len ≤ size) × (start + len + (n - (m + 1)) * len ≤ size)
-row_room start len n m size h g =
-    let q : n - m ≡ suc (n - (m + 1)) = omega arith in
-    let more = suc-mul (n - (m + 1)) len in
-    let all : start + suc (n - (m + 1)) * len ≤ size = rw q at g in
-    room ((n - (m + 1)) * len) (rw more at all)
-  where
-    room : (x : ℕ) → start + (x + len) ≤ size → (start + len ≤ size) × (start + len + x ≤ size)
-    room x k = (omega arith, omega arith)
+pub rows-first : (out : List ℕ) (at len n : ℕ) (t : List ℤ) → n * len ≤ length t → RowsLeft out at len n t out at 0 t
+rows-first out at len n t h =
+    let e : n - 0 ≡ n = omega arith in
+    record { put = rw e (left-all out at (row_lines len n 0 t)); short = omega arith; room = rw e h; count = omega arith }
 
-module _ (t : List ℤ) (start len : ℕ) where
-  pub row_words : take (start + len - start) (drop start t) ≡ take len (drop start t)
-  row_words = let e : start + len - start ≡ len = omega arith in rw e
+module _ {first out : List ℕ} {at len n : ℕ} {t : List ℤ} {p m : ℕ} {rest : List ℤ} (k : RowsLeft first at len n t out p m rest) where
+  -- the next row and the words after it
+  pub rows-next : (row more : List ℤ) {o : List ℕ} {q : ℕ} → m < n → rest ≡ row ++ more → length row ≡ len
+      → Put out p (shown (pos (m + 1)) ++ commas row) q o → RowsLeft first at len n t o q (m + 1) more
+  rows-next row more {o} {q} h e size put =
+      let j : n - m ≡ suc (n - (m + 1)) = omega arith in
+      let i : suc m ≡ m + 1 = omega arith in
+      let lines : row_lines len (n - m) m rest ≡ (shown (pos (m + 1)) ++ commas row) ++ row_lines len (n - (m + 1)) (m + 1) more =
+      ap (λ (x : ℕ). row_lines len x m rest) j
+      ∙ rows-one len (n - (m + 1)) m rest
+      ∙ rw (e, take_at row more len size, drop_at row more len size, i) in
+      let long = ap length e ∙ length-append row more in
+      let mul = suc-mul (n - (m + 1)) len in
+      let room : suc (n - (m + 1)) * len ≤ length rest = rw j at k.room in
+      let number = shown-few (pos (m + 1)) in
+      let words = commas-few row in
+      let bytes = length-append (shown (pos (m + 1))) (commas row) in
+      record {
+        put = left-more k.put lines put;
+        short = (let s = k.short in omega (arith, put.past));
+        room = omega arith;
+        count = omega arith;
+      }
 
-  pub row-length : start + len ≤ length t → length (take len (drop start t)) ≡ len
-  row-length h = length-take-le len (drop start t) (rw length-drop (omega arith))
+  -- no row is left, or no words for one
+  pub rows-last : 0 < len → (n ≤ m) ⊎ (length rest < len) → Put first at (row_lines len n 0 t) p out
+  rows-last h e =
+      let none_left : n - m ≡ 0 = ⊎_elim (λ (x : n ≤ m). omega arith) (λ (x : length rest < len). rows-few (n - m) len (length rest) k.room x) e in
+      left-done k.put (put_as (sym (rows_end len m rest none_left)) (put-none out p))
 
 -- ---- the length of a row, cut off at one more than the words of the largest table
 

@@ -13,14 +13,15 @@ mod number; // number.rt: a number in decimal digits
 
 use number::{put_natural, put_number};
 use sheet::TABLE_WORDS;
-use stores::{put_byte, put_bytes};
+use std::cmp::min;
+use stores::{put, put_all};
 
 // A comma and a word.
 fn put_field(out: &mut [u8], at: usize, w: i64) -> usize
     requires { at ≤ 200000 }
     ensures { Put out.old at (44 ∷ shown w) result out.new }
 {
-    put_byte(out, at, b',');
+    put(out, at, b',');
     put_number(out, at + 1, w)
 }
 
@@ -29,13 +30,11 @@ fn put_commas(out: &mut [u8], at: usize, words: &[i64]) -> usize
     requires { (at ≤ 100000) × (length words.now ≤ 1000) }
     ensures { Put out.old at (commas words.now) result out.new }
 {
-    let mut i: usize = 0;
     let mut p = at;
-    while i < words.len() {
-        p = put_field(out, p, words[i]);
-        i += 1;
+    for w in words {
+        p = put_field(out, p, *w);
     }
-    put_byte(out, p, b'\n');
+    put(out, p, b'\n');
     p + 1
 }
 
@@ -54,12 +53,8 @@ fn put_rows(out: &mut [u8], at: usize, len: usize, n: usize, table: &[i64]) -> u
     ensures { Put out.old at (row_lines len n 0 table.now) result out.new }
 {
     let mut p = at;
-    let mut m: usize = 0;
-    let mut start: usize = 0;
-    while m < n {
-        p = put_row(out, p, m + 1, &table[start..start + len]);
-        start += len;
-        m += 1;
+    for (m, row) in (0..n).zip(table.chunks_exact(len)) {
+        p = put_row(out, p, m + 1, row);
     }
     p
 }
@@ -69,9 +64,8 @@ fn put_first(out: &mut [u8], name: &[u8], z: i64) -> usize
     requires { length name.now ≤ 100 }
     ensures { Put out.old 0 (name.now ++ commas (z ∷ [])) result out.new }
 {
-    let p = put_bytes(out, 0, name);
-    let w = [z];
-    put_commas(out, p, &w)
+    let p = put_all(out, 0, name);
+    put_commas(out, p, &[z])
 }
 
 // The length of a row, or one more than the words of the largest table where it is more, as it is for each k past 143.
@@ -107,10 +101,8 @@ pub fn put_settled(out: &mut [u8], block: &[i64], table: &[i64]) -> usize
     ensures { Put out.old 0 (printed_for 0 block.now (some (take table_most table.now))) result
         out.new }
 {
-    if table.len() > TABLE_WORDS {
-        return put_table(out, block, &table[..TABLE_WORDS]);
-    }
-    put_table(out, block, table)
+    let n = min(table.len(), TABLE_WORDS);
+    put_table(out, block, &table[..n])
 }
 
 // Puts what is printed for a refusal.

@@ -1,25 +1,23 @@
 // Numbers in decimal, with a minus where they are negative.
-ghost use Rattle.std.specs.Prelude.{◌≡◌, [], ◌+◌, ◌≤◌, pos, nat_abs, length, drop};
+ghost use Rattle.std.specs.Prelude.{◌≡◌, [], ◌+◌, ◌≤◌, pos, length, drop};
 ghost use Rattle.stores.specs.Put.{Put};
 ghost use Rattle.sheet.specs.Text.{decimal, shown};
 
-use stores::{put_byte, put_bytes};
+use stores::{put, put_all};
 
 // The digits of `n` at the end of `buf`, from the last on: where they start.
 fn fill_digits(buf: &mut [u8], n: u64) -> usize
     ensures { (result ≤ length buf.old) × (drop result buf.new ≡ decimal (length buf.old) n []) }
 {
-    let mut i = buf.len();
     let mut m = n;
-    while i > 0 {
-        i -= 1;
+    for i in (0..buf.len()).rev() {
         buf[i] = b'0' + (m % 10) as u8;
         if m < 10 {
             return i;
         }
-        m = m / 10;
+        m /= 10;
     }
-    i
+    0
 }
 
 // Puts the digits of `n`. A 64-bit number has at most 20.
@@ -29,18 +27,7 @@ pub(crate) fn put_natural(out: &mut [u8], at: usize, n: u64) -> usize
 {
     let mut buf = [0u8; 20];
     let i = fill_digits(&mut buf, n);
-    put_bytes(out, at, &buf[i..])
-}
-
-// How far `v` is from 0; the least word has no positive counterpart.
-fn magnitude(v: i64) -> u64
-    ensures { result ≡ nat_abs v }
-{
-    if v < 0 {
-        let m = -(v + 1);
-        return m as u64 + 1;
-    }
-    v as u64
+    put_all(out, at, &buf[i..])
 }
 
 // Puts a word: a minus where it is negative, and its digits.
@@ -48,9 +35,10 @@ pub(crate) fn put_number(out: &mut [u8], at: usize, v: i64) -> usize
     requires { at + 1 ≤ 1000000 }
     ensures { Put out.old at (shown v) result out.new }
 {
+    let n = v.unsigned_abs();
     if v < 0 {
-        put_byte(out, at, b'-');
-        return put_natural(out, at + 1, magnitude(v));
+        put(out, at, b'-');
+        return put_natural(out, at + 1, n);
     }
-    put_natural(out, at, magnitude(v))
+    put_natural(out, at, n)
 }

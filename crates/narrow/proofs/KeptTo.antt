@@ -23,8 +23,14 @@ use Rattle.points.specs.Ends.{end_at}
 use Rattle.points.specs.Area.{coordinates}
 use Rattle.points.specs.Ends.{EndsAre}
 use Rattle.narrow.specs.Ends.{beyond, End, Ends}
-use Rattle.narrow.specs.Shapes.{KeptTo}
+use Rattle.words.specs.declared.Place.{Place}
+use Rattle.narrow.specs.Shapes.{KeptTo, Keeping}
 use Rattle.narrow.proofs.Edges.{end-start, end-skip}
+
+-- what is kept of the shapes to which one more is taken
+pub kept-so_far : {block t o : List ℤ} {i : Place} {n shapes : ℕ} {ends : List ℤ} → Keeping block t o i n ends
+    → shapes ≡ set_of n (keeps_shape block t i.number) → KeptTo block t i.number n shapes ends
+kept-so_far x e = record { kept = e; ends_of = x.ends_of }
 
 module _ (block : List ℤ) (t : List ℤ) (i : ℕ) where
   -- the ends of no shape

@@ -3,7 +3,9 @@ pub mod Complete
 pub mod Taking
 pub mod Widens
 pub mod Corners
+pub mod OneShape
 pub mod OneEnd
 pub mod KeptTo
 pub mod Writes
 pub mod Answers
+pub mod Calls

@@ -17,8 +17,7 @@ use Rattle.points.specs.declared.Area.{Area}
 use Rattle.points.specs.Area.{coordinates, Cuts}
 use Rattle.points.specs.Ends.{end_at, Taken}
 use Rattle.nearby.specs.declared.Nearby.{Nearby}
-use Rattle.bounds.specs.declared.Spot.{Spot}
-use Rattle.bounds.specs.Search.{Ahead, Searching, Sighted}
+use Rattle.bounds.specs.Search.{Ahead, free_in, Searching, Foremost}
 use Rattle.narrow.specs.Ends.{beyond, past-from, past_to, none-past, Edge, Kept, Widening}
 use Rattle.narrow.proofs.Edges.{edge_more}
 use Rattle.narrow.proofs.Taking.{near-point, edge-near, taken-kept}
@@ -29,6 +28,11 @@ pub record Begun (block t o list known : List ℤ) (x : Nearby) (cut : Area) (en
   pub given : Widening block t o list known x cut (x.s - 1) ends
   pub below : d < axes block
   pub edge : Edge block t x.i.number flip (x.s - 1) d (end_at flip d ends)
+
+pub begun : {block t o list known : List ℤ} {x : Nearby} {cut : Area} {ends : List ℤ} {d : ℕ} {flip : Bool}
+    → Widening block t o list known x cut (x.s - 1) ends × (d < axes block) × Edge block t x.i.number flip (x.s - 1) d (end_at flip d ends)
+    → Begun block t o list known x cut ends d flip
+begun w = record { given = w.0; below = w.1; edge = w.2 }
 
 module _ {block t o list known : List ℤ} {x : Nearby} {cut : Area} {ends : List ℤ} {d : ℕ} {flip : Bool}
     (b : Begun block t o list known x cut ends d flip) where
@@ -73,26 +77,24 @@ module _ {block t o list known : List ℤ} {x : Nearby} {cut : Area} {ends : Lis
       inside = part-inside block t row x.s cut b.given.box area cuts;
     }
 
-    -- what the search of it sighted
-    module _ {y : Spot} (sighted : Sighted flip block t row x.s area d y) where
-      pub edge-alone : y.found ≡ false → Taken-on z
-      edge-alone e =
-          with-shape b.edge (behind-none block t row x.s cut b.given.box area flip z d close cuts (sighted.none e))
+    pub edge-alone : ((p : List ℤ) → free_in block t row x.s area p ≡ true → ⊥) → Taken-on z
+    edge-alone none_free = with-shape b.edge (behind-none block t row x.s cut b.given.box area flip z d close cuts none_free)
 
-      module _ (e : y.found ≡ true) {new : List ℤ} (taken : Taken coordinates ends y.point new) where
-        stands-there : Stands block t row y.point
-        stands-there = record {
-          shape = x.s;
-          held = b.given.held;
-          stands = free-allowed block t row x.s cut b.given.box area cuts y.point (sighted.free e);
-        }
+    -- the search of it found p, which is taken in
+    module _ {p : List ℤ} (foremost : Foremost flip block t row x.s area d p) {new : List ℤ} (taken : Taken coordinates ends p new) where
+      stands-there : Stands block t row p
+      stands-there = record {
+        shape = x.s;
+        held = b.given.held;
+        stands = free-allowed block t row x.s cut b.given.box area cuts p foremost.free;
+      }
 
-        pub others-kept : Kept block t row ends new
-        others-kept =
-            let g = b.given.subject in
-            taken-kept block t g.table row g.row.from g.row.upto g.accepted.head.few_axes taken stands-there
+      pub others-kept : Kept block t row ends new
+      others-kept =
+          let g = b.given.subject in
+          taken-kept block t g.table row g.row.from g.row.upto g.accepted.head.few_axes taken stands-there
 
-        pub edge-taken : Taken-on (end_at flip d new)
-        edge-taken = with-shape (others-kept (x.s - 1) flip d b.below b.edge) (λ p h.
-            subst (λ (w : ℤ). Ahead flip w (word p d)) (sym (taken.moved flip d few))
-            (behind-first block t row x.s cut b.given.box area flip z d close cuts (word y.point d) (sighted.first e) p h))
+      pub edge-taken : Taken-on (end_at flip d new)
+      edge-taken = with-shape (others-kept (x.s - 1) flip d b.below b.edge) (λ q h.
+          subst (λ (w : ℤ). Ahead flip w (word q d)) (sym (taken.moved flip d few))
+          (behind-first block t row x.s cut b.given.box area flip z d close cuts (word p d) foremost.first q h))

@@ -1,15 +1,14 @@
--- A point taken into a run of ends, one dimension after the other (`Taken-none`, `taken_more`), and what becomes of the ends (`taken-kept`,
--- `taken-edges`). Assumes nothing.
-use mathlib.Core.Path.{◌≡◌, sym, ◌∙◌, subst}
-use mathlib.Core.Logic.{⊎_elim}
-use mathlib.Core.Bool.{Bool, true, false}
+-- A point taken into a run of ends, and what becomes of the ends (`taken-kept`, `taken-edges`); one side's ends in one dimension more
+-- (`side_more`). Assumes nothing.
+use mathlib.Core.Path.{◌≡◌, sym, subst}
+use mathlib.Core.Bool.{Bool, true}
 use mathlib.Core.List.{List}
 use Prim.Native.Nat.{ℕ, ◌+◌, ◌≤◌, ◌<◌}
 use native.Mathlib.Omega.{arith}
+use borrow.Author.Count.{below_more}
 use lib.IntN.{ℤ}
 use Rattle.integers.specs.Integer.{Within}
 use Rattle.integers.specs.Words.{word}
-use Rattle.integers.proofs.Below.{same_or}
 use Rattle.integers.proofs.Machine.{within-between}
 use Rattle.sheet.specs.Layout.{axes, rows}
 use Rattle.sheet.specs.Allowed.{allowed}
@@ -18,7 +17,7 @@ use Rattle.sheet.specs.Accepted.{Table}
 use Rattle.sheet.proofs.Forbidden.{allowed-parts, in-range}
 use Rattle.points.specs.Area.{coordinates}
 use Rattle.points.specs.Ends.{end_at, Taken}
-use Rattle.narrow.specs.Ends.{end_number, Edge, EdgesTo, Edges, Ends, Kept}
+use Rattle.narrow.specs.Ends.{Edge, SideTo, Edges, Ends, Kept}
 use Rattle.narrow.proofs.Edges.{edge_kept, end-taken}
 
 -- ---- the ends then
@@ -43,15 +42,7 @@ module _ (block : List ℤ) (t : List ℤ) (table : Table block t) (i : ℕ) (fr
         (end-taken block t i flip n d (end_at flip d old) p st (near-point st.shape d h p st.stands) (ends flip d h))
 
 -- ---- one end more has taken in a shape
-pub edges_more : (block : List ℤ) (t : List ℤ) (i n e : ℕ) {old new : List ℤ} (flip : Bool) (d : ℕ) → d < axes block
-    → end_number flip (axes block) d ≡ e → EdgesTo block t i n e old → Kept block t i old new → Edge block t i flip n d (end_at flip d new)
-    → EdgesTo block t i n (e + 1) new
-edges_more block t i n e {old} {new} flip d h q x kept edge f m g l =
-    ⊎_elim (λ r. at-hand f flip (r ∙ sym q) edge) (λ ne. kept n f m g (x f m g (omega (arith, ne)))) (same_or (end_number f (axes block) m) e)
-  where
-    at-hand : (f flip : Bool) → end_number f (axes block) m ≡ end_number flip (axes block) d → Edge block t i flip n d (end_at flip d new)
-        → Edge block t i f n m (end_at f m new)
-    at-hand true true r = subst (λ (o : ℕ). Edge block t i true n o (end_at true o new)) (omega (arith, r))
-    at-hand false false r = subst (λ (o : ℕ). Edge block t i false n o (end_at false o new)) (sym r)
-    at-hand true false r = absurd (omega (arith, r))
-    at-hand false true r = absurd (omega (arith, r))
+pub side_more : (block : List ℤ) (t : List ℤ) (i n e : ℕ) {old new : List ℤ} (flip : Bool) → e < axes block → SideTo block t i flip n e old
+    → Kept block t i old new → Edge block t i flip n e (end_at flip e new) → SideTo block t i flip n (e + 1) new
+side_more block t i n e {new = new} flip h side kept edge =
+    below_more (λ (m : ℕ). Edge block t i flip n m (end_at flip m new)) e (λ m l. kept n flip m (omega arith) (side m l)) edge

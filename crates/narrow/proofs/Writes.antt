@@ -1,19 +1,20 @@
--- Writing one word after the other: what the run is then, and whether it has changed so far (`written-more`, `written-front`).
--- Assumes nothing.
+-- Writing one word after the other: what the run is then, and whether it has changed so far (`written-more`, `written-pair`,
+-- `written-front`). Assumes nothing.
 use mathlib.Core.Path.{◌≡◌, refl, sym, ap, ◌∙◌, subst}
 use mathlib.Core.Bool.{Bool, true, false, not, ◌&&◌, ◌||◌}
 use mathlib.Core.List.{List, [], ◌∷◌, ◌++◌, append_assoc}
-use Prim.Native.Nat.{ℕ, suc, ◌+◌, ◌≤◌, ◌<◌}
+use Prim.Native.Nat.{ℕ, suc, ◌+◌, ◌*◌, ◌≤◌, ◌<◌}
 use native.Mathlib.Numerals.{add-one}
 use native.Mathlib.Omega.{arith}
 use lib.IntN.{ℤ, pos}
-use lib.ListN.{length, get_or, set, take, drop}
+use lib.ListN.{length, length-append, get_or, set, take, drop}
 use lib.Seq.{get_or-set_same, set-get_or, set_at, take-suc, length-take-le}
 use Rattle.integers.specs.Integer.{eq_z}
-use Rattle.integers.specs.Words.{word, replaced, same_words}
+use Rattle.integers.specs.Words.{word, pairs_below, replaced, same_words}
 use Rattle.integers.proofs.Booleans.{both_ways, and-true, true-and}
 use Rattle.integers.proofs.Ints.{eq_z-eq, eq-eq_z}
-use Rattle.integers.proofs.Lists.{same-eq, same_refl, length-replaced, replaced-before, replaced-after, replaced-none, replaced-more}
+use Rattle.integers.proofs.Lists.{same-eq, same_refl, length-pairs_below, pairs_below-more}
+use Rattle.integers.proofs.Lists.{length-replaced, replaced-before, replaced-after, replaced-none, replaced-more}
 
 -- word `at` of the run is still the first one: writing w there changes the run where w is another
 module _ (now first : List ℤ) (at : ℕ) (w : ℤ) (l : at < length now) (fresh : word now at ≡ word first at) where
@@ -98,3 +99,15 @@ written-front {first} {now} {at} {new} w v fits is tells =
       is = set_so w fits at v kept (omega arith) is tells ∙ replaced-front first new at v (omega arith);
       tells = told-so w fits at v kept (omega arith) is tells;
     }
+
+-- a pair of words more
+pub written-pair : {first now mid after : List ℤ} {at : ℕ} (d : ℕ) (f g : ℕ → ℤ) {moved told last : Bool}
+    → Written first at (pairs_below d f g) now moved → (p q : ℕ) → p ≡ at + 2 * d → q ≡ suc p → q < length first
+    → mid ≡ set now p (f d) → told ≡ (moved || not (eq_z (word now p) (f d)))
+    → after ≡ set mid q (g d) → last ≡ (told || not (eq_z (word mid q) (g d)))
+    → Written first at (pairs_below (d + 1) f g) after last
+written-pair {first} {after = after} {at} d f g {last = last} w p q e h l a b m n =
+    let long = length-pairs_below d f g in
+    let low = written-more w p (f d) (omega (arith, long)) (omega arith) a b in
+    subst (λ (ws : List ℤ). Written first at ws after last) (append_assoc (pairs_below d f g) (f d ∷ []) (g d ∷ []) ∙ sym (pairs_below-more d f g))
+    (written-more low q (g d) (omega (arith, length-append (pairs_below d f g) (f d ∷ []), long)) l m n)

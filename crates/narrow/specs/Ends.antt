@@ -1,6 +1,6 @@
 -- The ends that the allowed points of a row's first shapes reach: what the search of one shape after the other keeps.
 -- Assumes nothing.
-use Rattle.std.specs.Prelude.{◌≡◌, ◌⊎◌, Bool, true, false, cond, List, ℕ, suc, ◌+◌, ◌≤◌, ◌<◌, length, ℤ, pos, ◌+ℤ◌, ◌-ℤ◌}
+use Rattle.std.specs.Prelude.{◌≡◌, ◌⊎◌, Bool, true, false, cond, List, ℕ, suc, ◌≤◌, ◌<◌, length, ℤ, pos, ◌+ℤ◌, ◌-ℤ◌}
 use Rattle.std.specs.Int.Signed.{le_z}
 use Rattle.integers.specs.Integer.{minus}
 use Rattle.integers.specs.Words.{word}
@@ -37,11 +37,6 @@ abbrev pub none-past : Bool → Area → ℕ → ℤ → Bool
 none-past true a d z = le_z (word a.high d) z
 none-past false a d z = le_z z (word a.low d)
 
--- the ends are numbered: the low ones of the k dimensions, and then the high ones
-abbrev pub end_number : Bool → ℕ → ℕ → ℕ
-end_number true k d = k + d
-end_number false k d = d
-
 module _ (block : List ℤ) (t : List ℤ) (i : ℕ) where
   -- row i with one of the shapes 1 to n of its set is allowed at p
   pub record StandsTo (n : ℕ) (p : List ℤ) : Type 0 where
@@ -59,9 +54,9 @@ module _ (block : List ℤ) (t : List ℤ) (i : ℕ) where
   abbrev pub End : Bool → ℕ → ℕ → ℤ → Type 0
   End flip n d z = Edge flip n d z ⊎ ((z ≡ nowhere flip) × ((p : List ℤ) → StandsTo n p → ⊥))
 
-  -- the ends are such edges: those of which the number is below e, and all
-  abbrev pub EdgesTo : ℕ → ℕ → List ℤ → Type 0
-  EdgesTo n e ends = (flip : Bool) (d : ℕ) → d < axes block → end_number flip (axes block) d < e → Edge flip n d (end_at flip d ends)
+  -- the ends are such edges: those of one side in the dimensions below e, and all
+  abbrev pub SideTo : Bool → ℕ → ℕ → List ℤ → Type 0
+  SideTo flip n e ends = (d : ℕ) → d < e → Edge flip n d (end_at flip d ends)
 
   abbrev pub Edges : ℕ → List ℤ → Type 0
   Edges n ends = (flip : Bool) (d : ℕ) → d < axes block → Edge flip n d (end_at flip d ends)

@@ -30,27 +30,21 @@ fn with_shape(
     ensures { (result ≡ keeps_shape block.now table.now i.number (suc s))
         × Ends block.now table.now i.number (suc s) ends.new }
 {
-    let k = words::axes_of(block);
     let cut = region::cut_box(block, table, outline, i, s + 1);
-    let bottom = cut.low;
-    if !cut.holds(k, bottom) {
+    if !cut.holds(words::axes_of(block), cut.low) {
         return false;
     }
     let nearby = gather::gather(block, table, outline, suspects, known, i, s + 1);
     if nearby::lists_nothing(known, nearby) {
-        let top = cut.high;
-        ends::take_in(ends, bottom);
-        ends::take_in(ends, top);
+        ends::take_in(ends, cut.low);
+        ends::take_in(ends, cut.high);
         return true;
     }
-    let x = bounds::search(
+    let Some(p) = bounds::search(
         block, table, outline, suspects, known, nearby, 0, false, cut,
-    );
-    let found = x.found;
-    if !found {
+    ) else {
         return false;
-    }
-    let p = x.point;
+    };
     ends::take_in(ends, p);
     widen::widen(block, table, outline, suspects, known, ends, nearby, cut);
     true
@@ -78,9 +72,10 @@ fn with_next(
         return shapes;
     }
     if with_shape(block, table, outline, suspects, known, ends, i, s) {
-        return words::with_member(shapes, s);
+        words::with_member(shapes, s)
+    } else {
+        shapes
     }
-    shapes
 }
 
 // Which shapes of row i have a point: from the first of its set to the last. The ends are lent as those of no shape.
@@ -97,16 +92,15 @@ pub(crate) fn kept_shapes(
     ensures { KeptTo block.now table.now i.number 32 result ends.new }
 {
     let set = words::shapes_of(block, table, i);
+    let first = u32::trailing_zeros(set) as usize;
     let mut shapes = 0;
-    let mut s = u32::trailing_zeros(set) as usize;
-    while s < 32 {
+    for s in first..32 {
         if words::is_below(set, s) {
             return shapes;
         }
         shapes = with_next(
             block, table, outline, suspects, known, ends, i, s, set, shapes,
         );
-        s += 1;
     }
     shapes
 }

@@ -12,7 +12,7 @@ ghost use Rattle.integers.specs.Words.{word, pairs_below, replaced, same_words};
 ghost use Rattle.sheet.specs.Layout.{axes, row_at};
 ghost use Rattle.sheet.specs.Narrow.{narrow_of};
 ghost use Rattle.sheet.specs.Refusal.{refusal_row};
-ghost use Rattle.sheet.specs.Answer.{narrow_answer, table_after};
+ghost use Rattle.sheet.specs.Answer.{answer, is_found, table_after};
 ghost use Rattle.words.specs.Places.{RowPlace};
 ghost use Rattle.points.specs.Area.{area_words};
 ghost use Rattle.outline.specs.Outline.{OnRow};
@@ -24,14 +24,14 @@ use nearby::suspect;
 use nearby::suspect::{FEW, FEW_WORDS, MANY_WORDS};
 use outline::OUTLINE;
 use points::{COORDINATES, ends};
-use sheet::Narrowing;
+use sheet::Refusal;
 use words::Place;
 
 // An end that no point has reached: past every point of an accepted sheet.
 const NOWHERE: i64 = 1500000;
 
 // What narrowing a row of an accepted sheet came to: no place is left, every word stayed, or some word changed.
-#[derive(Clone, Copy)]
+#[derive(Clone, Copy, PartialEq, Eq)]
 pub enum Step {
     NoPlace,
     Still,
@@ -45,10 +45,7 @@ fn put(table: &mut [i64], at: usize, w: i64, moved: bool) -> bool
 {
     let old = table[at];
     table[at] = w;
-    if moved {
-        return true;
-    }
-    old != w
+    moved || old != w
 }
 
 // Writes row i's words. Whether one of them changed.
@@ -62,11 +59,9 @@ fn write_row(block: &[i64], table: &mut [i64], i: Place, shapes: u32, ends: &[i6
     let k = words::axes_of(block);
     let at = i.at;
     let mut moved = false;
-    let mut d = 0;
-    while d < k {
+    for d in 0..k {
         moved = put(table, at + 1 + 2 * d, ends[d], moved);
         moved = put(table, at + 2 + 2 * d, ends[COORDINATES + d], moved);
-        d += 1;
     }
     put(table, at, shapes as i64, moved)
 }
@@ -90,50 +85,43 @@ pub fn narrow_row(
         return Step::NoPlace;
     }
     if write_row(block, table, i, shapes, &ends) {
-        return Step::Moved;
+        Step::Moved
+    } else {
+        Step::Still
     }
-    Step::Still
 }
 
-// Narrows row i of an accepted sheet, and gives what was found as an answer. The suspects' words may have been any.
-fn narrow_in(
+// Narrows row i of an accepted sheet, and says whether it has a place. N words make room for its suspects.
+fn narrow_in<const N: usize>(
     block: &[i64],
     table: &mut [i64],
     outline: &[i64; OUTLINE],
-    suspects: &mut [i64],
     i: Place,
-) -> Narrowing
-    requires { OnRow block.now table.old outline.now i }
-    ensures { (result ≡ narrow_answer 0 (narrow_of block.now table.old i.number))
-        × (table.new ≡ table_after 0 table.old (narrow_of block.now table.old i.number)) }
+) -> bool
+    requires room { N ≤ 5120 }
+    requires on { OnRow block.now table.old outline.now i }
+    ensures found { result ≡ is_found (narrow_of block.now table.old i.number) }
+    ensures words { table.new ≡ value_or table.old (narrow_of block.now table.old i.number) }
 {
+    let mut suspects = [0i64; N];
     let mut known = [0i64; KNOWN];
-    match narrow_row(block, table, outline, suspects, &mut known, i) {
-        Step::NoPlace => Narrowing::NoPlace,
-        Step::Still => Narrowing::Narrowed,
-        Step::Moved => Narrowing::Narrowed,
-    }
+    narrow_row(block, table, outline, &mut suspects, &mut known, i) != Step::NoPlace
 }
 
-// The kernel's operation: narrows a row of a sheet, or refuses it and leaves the table as it was.
-pub fn narrow(block: &[i64], table: &mut [i64], row: i64) -> Narrowing
-    ensures { (result ≡ narrow_answer (refusal_row block.now table.old row)
-        (narrow_of block.now table.old (nat row)))
+// The kernel's operation: narrows a row of a sheet, or refuses it and leaves the table as it was. Whether the row has a place.
+pub fn narrow(block: &[i64], table: &mut [i64], row: i64) -> Result<bool, Refusal>
+    ensures { (result ≡ answer (refusal_row block.now table.old row)
+        (is_found (narrow_of block.now table.old (nat row))))
         × (table.new ≡ table_after (refusal_row block.now table.old row) table.old
         (narrow_of block.now table.old (nat row))) }
 {
-    let g = accept::row_refusal(block, table, row);
-    if g > 0 {
-        return Narrowing::Refused(g);
-    }
+    accept::check_row(block, table, row)?;
     let i = words::row_place(block, table, row as usize);
     let mut outline = [0i64; OUTLINE];
     outline::draw(block, &mut outline);
-    let most = suspect::most(block, table, &outline);
-    if most <= FEW {
-        let mut suspects = [0i64; FEW_WORDS];
-        return narrow_in(block, table, &outline, &mut suspects, i);
+    if suspect::most(block, table, &outline) <= FEW {
+        Ok(narrow_in::<FEW_WORDS>(block, table, &outline, i))
+    } else {
+        Ok(narrow_in::<MANY_WORDS>(block, table, &outline, i))
     }
-    let mut suspects = [0i64; MANY_WORDS];
-    narrow_in(block, table, &outline, &mut suspects, i)
 }

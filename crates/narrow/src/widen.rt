@@ -6,7 +6,7 @@ ghost use Rattle.sheet.specs.Layout.{axes};
 ghost use Rattle.points.specs.Area.{coordinates, Cuts, area_of};
 ghost use Rattle.points.specs.Ends.{end_at};
 ghost use Rattle.nearby.specs.Listing.{Listed};
-ghost use Rattle.narrow.specs.Ends.{beyond, past-from, past_to, none-past, end_number, Edge, Edges, Kept, Widening};
+ghost use Rattle.narrow.specs.Ends.{beyond, past-from, past_to, none-past, Edge, Edges, Kept, Widening};
 
 use nearby::Nearby;
 use nearby::known::KNOWN;
@@ -29,9 +29,10 @@ fn ahead_of(area: Area, d: usize, flip: bool, z: i64) -> Area
     ensures { (k : ℕ) → d < k → Cuts k area result (λ p. within (past-from flip z) (past_to flip z) (word p d)) }
 {
     if flip {
-        return area.within(d, z + 1, REACH);
+        area.within(d, z + 1, REACH)
+    } else {
+        area.within(d, -REACH, z - 1)
     }
-    area.within(d, -REACH, z - 1)
 }
 
 // Takes the end in dimension d on to the points of the list's shape, of which the cut box is: only those ahead of the end are searched.
@@ -58,24 +59,12 @@ fn widen_end(
     if none_past(cut, d, flip, z) {
         return;
     }
-    let area = ends::area_at(cut, 0);
-    let ahead = ahead_of(area, d, flip, z);
-    let x = bounds::search(
+    let ahead = ahead_of(ends::area_at(cut, 0), d, flip, z);
+    if let Some(p) = bounds::search(
         block, table, outline, suspects, known, nearby, d, flip, ahead,
-    );
-    let found = x.found;
-    if found {
-        let p = x.point;
+    ) {
         ends::take_in(ends, p);
     }
-}
-
-// The dimension of end e, where the high ends follow the k low ones.
-fn dim_of(e: usize, k: usize) -> usize
-    requires { e < k + k }
-    ensures { (result < k) × (end_number (leb k e) k result ≡ e) }
-{
-    if e < k { e } else { e - k }
 }
 
 // Takes every end on to the points of the list's shape: the low ends, and then the high ones.
@@ -96,21 +85,11 @@ pub(crate) fn widen(
     let k = words::axes_of(block);
     let mut cut_ends = [0i64; AREA_WORDS];
     ends::put_area(&mut cut_ends, 0, cut);
-    let mut e = 0;
-    while e < k + k {
-        let d = dim_of(e, k);
-        widen_end(
-            block,
-            table,
-            outline,
-            suspects,
-            known,
-            ends,
-            nearby,
-            d,
-            k <= e,
-            &cut_ends,
-        );
-        e += 1;
+    for flip in [false, true] {
+        for d in 0..k {
+            widen_end(
+                block, table, outline, suspects, known, ends, nearby, d, flip, &cut_ends,
+            );
+        }
     }
 }

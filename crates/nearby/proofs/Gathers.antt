@@ -1,5 +1,8 @@
 -- How a list grows: nothing is added where nothing can be met, a known area or a suspect is added, there is no room, one step follows
 -- another; and loops over these. Assumes nothing.
+use Rattle.std.specs.Prelude.{Option}
+use Rattle.std.proofs.Common.{None, Some}
+use Rattle.std.proofs.lemmas.Option.{IfSome_then}
 use mathlib.Core.Path.{◌≡◌, refl, sym, ap, ap₂, ◌∙◌, subst}
 use mathlib.Core.Logic.{inl, ⊎_elim}
 use mathlib.Core.Bool.{Bool, true, false, ◌||◌}
@@ -21,7 +24,7 @@ use Rattle.sheet.specs.Accepted.{Count}
 use Rattle.points.specs.declared.Area.{Area}
 use Rattle.points.specs.Area.{in_area}
 use Rattle.points.specs.Ends.{SameBut}
-use Rattle.nearby.specs.Places.{suspect_len, suspect_at, full, suspect_area}
+use Rattle.nearby.specs.Places.{suspect_len, suspect_at, suspect_area}
 use Rattle.nearby.specs.Known.{Remembered}
 use Rattle.nearby.specs.Listing.{Known, Suspect, Met, Suspects}
 use Rattle.nearby.specs.Adding.{Gathered, Open, Grows, Threat}
@@ -75,11 +78,11 @@ module _ {block t : List ℤ} {i s : ℕ} where
     }
 
   -- ---- a list that has met more has met less
-  pub gathered-by : {l known : List ℤ} {n : ℕ} {G H : List ℤ → Bool} → ((p : List ℤ) → H p ≡ true → G p ≡ true)
+  pub gathered-by : {l known : List ℤ} {n : Option ℕ} {G H : List ℤ → Bool} → ((p : List ℤ) → H p ≡ true → G p ≡ true)
       → Gathered block t i s l known n G → Gathered block t i s l known n H
-  gathered-by f g = record { areas = g.areas; suspects = g.suspects; meets = λ w p j h. g.meets w p j (f p h) }
+  gathered-by {n = n} f g = record { areas = g.areas; suspects = g.suspects; meets = IfSome_then n g.meets (λ n m p j h. m p j (f p h)) }
 
-  module _ {l known l' known' : List ℤ} {n n' : ℕ} where
+  module _ {l known l' known' : List ℤ} {n n' : Option ℕ} where
     pub grows-by : {H K : List ℤ → Bool} → ((p : List ℤ) → K p ≡ true → H p ≡ true)
         → Grows block t i s H l known n l' known' n' → Grows block t i s K l known n l' known' n'
     grows-by {H} {K} f g = record {
@@ -90,7 +93,7 @@ module _ {block t : List ℤ} {i s : ℕ} where
     pub open_after : {H : List ℤ → Bool} → Grows block t i s H l known n l' known' n' → Open block t i s l known n → Open block t i s l' known' n'
     open_after g w = gathered-by (λ p h. clash h refl) (g.after (λ p. false) w)
 
-    pub grows_then : {l'' known'' : List ℤ} {n'' : ℕ} {H K : List ℤ → Bool} → Grows block t i s H l known n l' known' n'
+    pub grows_then : {l'' known'' : List ℤ} {n'' : Option ℕ} {H K : List ℤ → Bool} → Grows block t i s H l known n l' known' n'
         → Grows block t i s K l' known' n' l'' known'' n'' → Grows block t i s (λ p. H p || K p) l known n l'' known'' n''
     grows_then {H} {K} g k = record {
       after = λ G w.
@@ -103,39 +106,37 @@ module _ {block t : List ℤ} {i s : ℕ} where
   pub suspects-none : (l : List ℤ) → Suspects block t i s l 0
   suspects-none l = record { fits = omega arith; each = λ e h. absurd (omega (arith, h)) }
 
-  pub gathered-start : {l known : List ℤ} → Known block t i s known → Open block t i s l known 0
-  gathered-start {l} k = record { areas = k; suspects = λ w. suspects-none l; meets = λ w p j h. clash h refl }
+  pub gathered-start : {l known : List ℤ} → Known block t i s known → Open block t i s l known (Some 0)
+  gathered-start {l} k = record { areas = k; suspects = suspects-none l; meets = λ p j h. clash h refl }
 
   -- ---- nothing to add
-  module _ {l known : List ℤ} {n : ℕ} {H : List ℤ → Bool} where
+  module _ {l known : List ℤ} {n : Option ℕ} {H : List ℤ → Bool} where
     pub grows-clear : ((p : List ℤ) → in_ranges block t i p ≡ true → H p ≡ true → ⊥) → Grows block t i s H l known n l known n
     grows-clear f = record {
       after = λ G w. record {
         areas = w.areas;
         suspects = w.suspects;
-        meets = λ u p j h k. ⊎_elim (λ v. w.meets u p j v k) (λ v. absurd (f p j v)) (or-true {a = G p} h);
+        meets = IfSome_then n w.meets (λ n m p j h k. ⊎_elim (λ v. m p j v k) (λ v. absurd (f p j v)) (or-true {a = G p} h));
       };
     }
 
     pub grows_none : ((p : List ℤ) → H p ≡ false) → Grows block t i s H l known n l known n
     grows_none f = grows-clear (λ p j h. clash h (f p))
 
-    -- no room: the list is full
-    pub grows-full : Grows block t i s H l known n l known full
-    grows-full = record {
-      after = λ G w. record { areas = w.areas; suspects = λ u. absurd (omega (arith, u)); meets = λ u. absurd (omega (arith, u)) };
-    }
+    -- no room
+    pub grows-full : Grows block t i s H l known n l known None
+    grows-full = record { after = λ G w. record { areas = w.areas; suspects = tt; meets = tt } }
 
   -- ---- one area more
   module _ {r j : ℕ} {area : Area} {filled : Bool} (threat : Threat block t i s r j area filled) where
-    pub grows-known : {l known known' : List ℤ} {n : ℕ} {had-room : Bool} → Remembered known area had-room known' → had-room ≡ true
+    pub grows-known : {l known known' : List ℤ} {n : Option ℕ} {had-room : Bool} → Remembered known area had-room known' → had-room ≡ true
         → filled ≡ true → Grows block t i s (λ p. set_forbids block t r p i s j) l known n l known' n
-    grows-known w had full-of = record {
+    grows-known {n = n} w had full-of = record {
       after = λ G g. record {
         areas = known_more g.areas (record { forbids = threat.fills full-of; small = threat.small }) w;
         suspects = g.suspects;
-        meets = λ f p inside h k. ⊎_elim (λ v. g.meets f p inside v (held-before block p w k))
-            (λ v. clash (held_new block p w had (threat.holds p inside v)) k) (or-true {a = G p} h);
+        meets = IfSome_then n g.meets (λ n m p inside h k. ⊎_elim (λ v. m p inside v (held-before block p w k))
+            (λ v. clash (held_new block p w had (threat.holds p inside v)) k) (or-true {a = G p} h));
       };
     }
 
@@ -161,24 +162,24 @@ module _ {block t : List ℤ} {i s : ℕ} where
       }
 
       pub grows-suspect : {known : List ℤ} → suspect_at (suc n) ≤ length l
-          → Grows block t i s (λ p. set_forbids block t r p i s j) l known n l' known (n + 1)
+          → Grows block t i s (λ p. set_forbids block t r p i s j) l known (Some n) l' known (Some (n + 1))
       grows-suspect room = record {
         after = λ G g. record {
           areas = g.areas;
-          suspects = λ f. record {
+          suspects = record {
             fits = omega (arith, room, same.long);
             each = λ e k. each_more (Suspect block t i s l') new-suspect
-                (λ e m. suspect-kept same m ((g.suspects (omega (arith, f))).each e m)) e (subst (λ (m : ℕ). e < m) (add-one n) k);
+                (λ e m. suspect-kept same m (g.suspects.each e m)) e (subst (λ (m : ℕ). e < m) (add-one n) k);
           };
-          meets = λ f p j h k. ⊎_elim (λ v. met-kept same (g.meets (omega (arith, f)) p j v k)) (λ v. new-met p j v) (or-true {a = G p} h);
+          meets = λ p j h k. ⊎_elim (λ v. met-kept same (g.meets p j v k)) (λ v. new-met p j v) (or-true {a = G p} h);
         };
       }
 
   -- ---- loops
-  pub grows_start : (F : ℕ → List ℤ → Bool) {l known : List ℤ} {n : ℕ} → Grows block t i s (λ p. any_below 0 (λ m. F m p)) l known n l known n
+  pub grows_start : (F : ℕ → List ℤ → Bool) {l known : List ℤ} {n : Option ℕ} → Grows block t i s (λ p. any_below 0 (λ m. F m p)) l known n l known n
   grows_start F = grows_none (λ p. any-zero (λ m. F m p))
 
-  pub grows-more : (F : ℕ → List ℤ → Bool) {l known l' known' l'' known'' : List ℤ} {k k' k'' n : ℕ}
+  pub grows-more : (F : ℕ → List ℤ → Bool) {l known l' known' l'' known'' : List ℤ} {k k' k'' : Option ℕ} {n : ℕ}
       → Grows block t i s (λ p. any_below n (λ m. F m p)) l known k l' known' k' → Grows block t i s (F n) l' known' k' l'' known'' k''
       → Grows block t i s (λ p. any_below (n + 1) (λ m. F m p)) l known k l'' known'' k''
   grows-more F {n} g h = grows-by (λ p e. sym (any-more n (λ m. F m p)) ∙ e) (grows_then g h)

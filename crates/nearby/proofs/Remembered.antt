@@ -1,5 +1,7 @@
 -- Known areas: what it is to clear them and to remember one more. An area that is all forbidden can be remembered, and the list stays one.
 -- Assumes nothing.
+use Rattle.std.proofs.Common.{Some}
+use Rattle.std.proofs.lemmas.Option.{IfSome_then}
 use mathlib.Core.Path.{◌≡◌, refl, sym, ap, ◌∙◌, subst}
 use mathlib.Core.Logic.{inl, inr, ⊎_elim}
 use mathlib.Core.Bool.{Bool, true, false}
@@ -18,7 +20,6 @@ use Rattle.sheet.specs.Layout.{axes}
 use Rattle.sheet.specs.Allowed.{forbidden}
 use Rattle.points.specs.declared.Area.{Area}
 use Rattle.points.specs.Area.{area_words, in_area, Small, area_at}
-use Rattle.forbid.specs.declared.Region.{Region}
 use Rattle.forbid.specs.Region.{IsRegion}
 use Rattle.nearby.specs.declared.Nearby.{Nearby}
 use Rattle.points.specs.Ends.{SameBut}
@@ -106,20 +107,19 @@ module _ {block t : List ℤ} {i s : ℕ} where
       (decide had-room)
 
   -- a point in one of them
-  pub known-forbids : {known p : List ℤ} {x : Region} → Known block t i s known → KnownAt block known p x.area → x.hit ≡ true
-      → IsRegion (axes block) (forbidden block t i s) p x
-  known-forbids {known} {p} {x} w k h =
-      let a = subst (Filled block t i s) (sym k.is) (filled_at w k.entry k.below) in
-      record { hit = h ∙ sym (a.forbids p k.holds); around = λ u. k.holds; only = λ u. a.forbids; small = a.small }
+  pub known-forbids : {known p : List ℤ} {a : Area} → Known block t i s known → KnownAt block known p a
+      → IsRegion (axes block) (forbidden block t i s) p (Some a)
+  known-forbids {p = p} w k =
+      let f = subst (Filled block t i s) (sym k.is) (filled_at w k.entry k.below) in
+      record { hit = sym (f.forbids p k.holds); around = k.holds; only = f.forbids; small = f.small }
 
-  pub filled-region : {p : List ℤ} {x : Region} → IsRegion (axes block) (forbidden block t i s) p x → x.hit ≡ true
-      → Filled block t i s x.area
-  filled-region f h = record { forbids = f.only h; small = f.small }
+  pub filled-region : {p : List ℤ} {a : Area} → IsRegion (axes block) (forbidden block t i s) p (Some a) → Filled block t i s a
+  filled-region f = record { forbids = f.only; small = f.small }
 
 pub listed-remembered : {block t : List ℤ} {x : Nearby} {list known known' : List ℤ} {area : Area} {had-room : Bool}
     → Listed block t x list known → Filled block t x.i.number x.s area → Remembered known area had-room known' → Listed block t x list known'
-listed-remembered {block} w a r = record {
+listed-remembered {block} {x = x} w a r = record {
   areas = known_more w.areas a r;
   suspects = w.suspects;
-  meets = λ all p inside none. w.meets all p inside (held-before block p r none);
+  meets = IfSome_then x.count w.meets (λ n f p inside none. f p inside (held-before block p r none));
 }

@@ -1,12 +1,11 @@
 -- Known areas as the code keeps them, whatever they are known for. Assumes nothing.
-use Rattle.std.specs.Prelude.{◌≡◌, Bool, true, false, List, ℕ, suc, ◌≤◌, ◌<◌, ℤ}
+use Rattle.std.specs.Prelude.{Option, IfSome, IfNone, ◌≡◌, Bool, true, false, List, ℕ, suc, ◌≤◌, ◌<◌, ℤ}
 use Rattle.integers.specs.Below.{any_below}
 use Rattle.integers.specs.Words.{word}
 use Rattle.sheet.specs.Layout.{axes}
 use Rattle.sheet.specs.Accepted.{Count}
 use Rattle.points.specs.declared.Area.{Area}
 use Rattle.points.specs.Area.{in_area}
-use Rattle.forbid.specs.declared.Region.{Region}
 use Rattle.nearby.specs.Places.{known_most, known_count, known_area}
 
 -- the first word says how many areas follow
@@ -34,7 +33,7 @@ module _ (block known p : List ℤ) where
     pub is : a ≡ known_area known entry
     pub holds : in_area (axes block) a p ≡ true
 
-  -- a region with such an area, or none holds p
-  pub record KnownRegion (x : Region) : Type 0 where
-    pub met : x.hit ≡ true → KnownAt x.area
-    pub missed : x.hit ≡ false → known_holds ≡ false
+  -- such an area, or none holds p
+  pub record KnownRegion (x : Option Area) : Type 0 where
+    pub met : IfSome x KnownAt
+    pub missed : IfNone x (known_holds ≡ false)

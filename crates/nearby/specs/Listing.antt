@@ -1,6 +1,8 @@
 -- The list of what can forbid a row with a shape the points of its ranges. Two statements carry it: every point of a known area is forbidden;
 -- and a point that is forbidden lies in a known area, or in the area of a suspect that forbids it. Assumes nothing.
-use Rattle.std.specs.Prelude.{◌≡◌, Bool, true, false, ◌&&◌, List, ℕ, ◌≤◌, ◌<◌, eqb, ℤ, length}
+use Rattle.std.specs.Prelude.{IfSome, suc, ◌≡◌, Bool, true, false, ◌&&◌, List, ℕ, ◌≤◌, ◌<◌, eqb, ℤ, length}
+use Rattle.std.specs.Option.{option_eq}
+use Rattle.std.specs.declared.option.Option.TheVariants.{Some}
 use Rattle.integers.specs.Words.{word}
 use Rattle.sheet.specs.Layout.{axes, rules, rows}
 use Rattle.sheet.specs.Allowed.{in_ranges, set_forbids, forbidden}
@@ -30,6 +32,15 @@ module _ (block t : List ℤ) (i s : ℕ) where
       pub upto : row_of list e ≤ rows block t
       pub sound : (q : List ℤ) → set_forbids block t (rule_of list e) q i s (row_of list e) ≡ true → forbidden block t i s q ≡ true
 
+    -- suspect e forbids q at p: its area holds p, and its rule and its row forbid q
+    unfoldable pub suspect_forbids : List ℤ → ℕ → List ℤ → Bool
+    suspect_forbids p e q = in_area (axes block) (suspect_area list e) p && set_forbids block t (rule_of list e) q i s (row_of list e)
+
+    -- suspect e stands in the list
+    pub record SuspectAt (e : ℕ) : Type 0 where
+      pub fits : suspect_at (suc e) ≤ length list
+      pub suspect : Suspect e
+
     -- one of the first n suspects forbids p, and its area holds p
     pub record Met (n : ℕ) (p : List ℤ) : Type 0 where
       pub suspect : ℕ
@@ -43,19 +54,19 @@ module _ (block t : List ℤ) (i s : ℕ) where
       pub each : (e : ℕ) → e < n → Suspect e
 
 module _ (block t : List ℤ) (x : Nearby) (list : List ℤ) where
-  -- a suspect has met p if it is forbidden
-  abbrev pub Meets : List ℤ → Type 0
-  Meets p = forbidden block t x.i.number x.s p ≡ true → Met block t x.i.number x.s list x.count p
+  -- one of n suspects has met p if it is forbidden
+  abbrev pub Meets : ℕ → List ℤ → Type 0
+  Meets n p = forbidden block t x.i.number x.s p ≡ true → Met block t x.i.number x.s list n p
 
   -- so, where the list is whole, with every point of the row's ranges that no known area holds
   pub record Listed (known : List ℤ) : Type 0 where
     pub areas : Known block t x.i.number x.s known
-    pub suspects : Suspects block t x.i.number x.s list x.count
-    pub meets : x.whole ≡ true → (p : List ℤ) → in_ranges block t x.i.number p ≡ true → known_holds block known p ≡ false → Meets p
+    pub suspects : IfSome x.count (Suspects block t x.i.number x.s list)
+    pub meets : IfSome x.count (λ n. (p : List ℤ) → in_ranges block t x.i.number p ≡ true → known_holds block known p ≡ false → Meets n p)
 
 -- the list is whole, and neither a suspect nor a known area stands in it
 unfoldable pub lists_nothing : Nearby → List ℤ → Bool
-lists_nothing x known = x.whole && eqb x.count 0 && eqb (known_count known) 0
+lists_nothing x known = option_eq eqb x.count (Some 0) && eqb (known_count known) 0
 
 -- a point of the row's ranges at which the list is asked
 pub record Sought (block t o : List ℤ) (x : Nearby) (list known p : List ℤ) : Type 0 where
@@ -68,5 +79,5 @@ pub record Sought (block t o : List ℤ) (x : Nearby) (list known p : List ℤ) 
 pub record Suspected (block t o : List ℤ) (x : Nearby) (list p : List ℤ) : Type 0 where
   pub at_point : AtPoint block t o x.s p
   pub row : RowPlace block t x.i
-  pub suspects : Suspects block t x.i.number x.s list x.count
-  pub meets : x.whole ≡ true → Meets block t x list p
+  pub suspects : IfSome x.count (Suspects block t x.i.number x.s list)
+  pub meets : IfSome x.count (λ n. Meets block t x list n p)

@@ -18,10 +18,6 @@ suspect_row e = suspect_at e + 1
 abbrev pub suspect_ends : ℕ → ℕ
 suspect_ends e = suspect_at e + 2
 
--- the count of suspects that is told where there is no room for them all
-abbrev pub full : ℕ
-full = 1000
-
 module _ (list : List ℤ) (e : ℕ) where
   abbrev pub rule_of : ℕ
   rule_of = nat (word list (suspect_at e))

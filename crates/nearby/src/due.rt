@@ -21,12 +21,8 @@ fn threatens_shape(
     requires { ShapeFaces block.now table.now outline.now r j t i s }
     ensures { result ≡ false → ShapeHarmless block.now table.now r.number j.number t i.number s }
 {
-    if !words::has_shape(block, table, i, s) {
-        return false;
-    }
-    let pair = gather::hulls(r, s, j, t);
-    let x = pair::pair_meets(block, table, outline, pair, i);
-    x.hit
+    words::has_shape(block, table, i, s)
+        && pair::pair_meets(block, table, outline, gather::hulls(r, s, j, t), i).is_some()
 }
 
 // Whether row j can forbid row i some point of its ranges by rule r: its lowest shape forbids all that it does. From the first shape of row i's
@@ -48,15 +44,13 @@ pub fn threatens_row(
         return threatens_shape(block, table, outline, r, j, t, i, own);
     }
     let set = words::shapes_of(block, table, i);
-    let mut s = u32::trailing_zeros(set) as usize;
-    while s < 32 {
+    for s in u32::trailing_zeros(set) as usize..32 {
         if words::is_below(set, s) {
             return false;
         }
         if threatens_shape(block, table, outline, r, j, t, i, s + 1) {
             return true;
         }
-        s += 1;
     }
     false
 }

@@ -20,9 +20,6 @@ use outline::{OUTLINE, chain, rules, solid};
 use points::Area;
 use words::Place;
 
-// The count of a list that has more to hold than there is room for.
-const FULL: usize = 1000;
-
 // Row i with shape s: for whom a list is made.
 #[derive(Clone, Copy)]
 pub(crate) struct Query {
@@ -55,41 +52,36 @@ fn fills_hulls(
     requires { Hulled block.now table.now outline.now s j t }
     ensures { result ≡ true → FillsHulls block.now table.now s j.number t }
 {
-    if !words::has_one_shape(block, table, j) {
-        return false;
-    }
-    chain::is_single(block, outline, s) && chain::is_single(block, outline, t)
+    words::has_one_shape(block, table, j)
+        && chain::is_single(block, outline, s)
+        && chain::is_single(block, outline, t)
 }
 
 // Lists an area that row j threatens by rule r: as known where row j forbids all of it, and else as a suspect's. How many suspects there are
-// then.
+// then, if there is room for all.
 fn add_area(
     suspects: &mut [i64],
     known: &mut [i64; KNOWN],
-    count: usize,
+    count: Option<usize>,
     r: usize,
     j: usize,
     area: Area,
     fills: bool,
-) -> usize
+) -> Option<usize>
     requires { Space suspects.old known.old count r j }
     ensures { (block table : List ℤ) (i s : ℕ) → Threat block table i s r j area fills
         → Grows block table i s (λ p. set_forbids block table r p i s j)
         suspects.old known.old count suspects.new known.new result }
 {
-    if fills {
-        if known::remember(known, area) {
-            return count;
-        }
+    if fills && known::remember(known, area) {
+        return count;
     }
-    if count >= FULL {
-        return FULL;
+    let e = count?;
+    if suspects.len() - SUSPECT * e < SUSPECT {
+        return None;
     }
-    if suspects.len() - SUSPECT * count < SUSPECT {
-        return FULL;
-    }
-    suspect::put_suspect(suspects, count, r, j, area);
-    count + 1
+    suspect::put_suspect(suspects, e, r, j, area);
+    Some(e + 1)
 }
 
 // Lists row j, if it is another row, the rule names it, and its lowest shape can forbid a point of row i's ranges: what row j forbids, that shape
@@ -100,19 +92,18 @@ fn add_row(
     outline: &[i64; OUTLINE],
     suspects: &mut [i64],
     known: &mut [i64; KNOWN],
-    count: usize,
+    count: Option<usize>,
     q: Query,
     r: Place,
     j: Place,
-) -> usize
+) -> Option<usize>
     requires { Adding block.now table.now outline.now q suspects.old known.old count × Binds block.now q.i.number r
         × RowPlace block.now table.now j }
     ensures { Grows block.now table.now q.i.number q.s
         (λ p. row_forbids block.now table.now r.number p q.i.number q.s j.number)
         suspects.old known.old count suspects.new known.new result }
 {
-    let i = q.i;
-    let own = i.number;
+    let own = q.i.number;
     let other = j.number;
     if own == other {
         return count;
@@ -120,18 +111,13 @@ fn add_row(
     if !words::names_row(block, r, other) {
         return count;
     }
-    let s = q.s;
     let t = words::lowest_shape(block, table, j);
-    let pair = hulls(r, s, j, t);
-    let x = pair::pair_meets(block, table, outline, pair, i);
-    let hit = x.hit;
-    if !hit {
+    let pair = hulls(r, q.s, j, t);
+    let Some(area) = pair::pair_meets(block, table, outline, pair, q.i) else {
         return count;
-    }
-    let area = x.area;
-    let rule = r.number;
-    let fills = fills_hulls(block, table, outline, s, j, t);
-    add_area(suspects, known, count, rule, other, area, fills)
+    };
+    let fills = fills_hulls(block, table, outline, q.s, j, t);
+    add_area(suspects, known, count, r.number, other, area, fills)
 }
 
 // Lists every row of rule r.
@@ -141,22 +127,19 @@ fn add_rows(
     outline: &[i64; OUTLINE],
     suspects: &mut [i64],
     known: &mut [i64; KNOWN],
-    count: usize,
+    count: Option<usize>,
     q: Query,
     r: Place,
-) -> usize
+) -> Option<usize>
     requires { Adding block.now table.now outline.now q suspects.old known.old count × Binds block.now q.i.number r }
     ensures { Grows block.now table.now q.i.number q.s
         (rows_forbid block.now table.now r.number q.i.number q.s)
         suspects.old known.old count suspects.new known.new result }
 {
-    let n = words::rows_of(block, table);
     let mut found = count;
-    let mut j = 0;
-    while j < n {
+    for j in 0..words::rows_of(block, table) {
         let other = words::row_place(block, table, j + 1);
         found = add_row(block, table, outline, suspects, known, found, q, r, other);
-        j += 1;
     }
     found
 }
@@ -168,10 +151,10 @@ fn add_rule(
     outline: &[i64; OUTLINE],
     suspects: &mut [i64],
     known: &mut [i64; KNOWN],
-    count: usize,
+    count: Option<usize>,
     q: Query,
     r: usize,
-) -> usize
+) -> Option<usize>
     requires { Adding block.now table.now outline.now q suspects.old known.old count × (r < rules block.now) }
     ensures { Grows block.now table.now q.i.number q.s
         (λ p. bit (word outline.now rules_at) r
@@ -182,8 +165,7 @@ fn add_rule(
         return count;
     }
     let rule = words::rule_place(block, r);
-    let row = q.i.number;
-    if !forbid::is_non_overlap_of(block, rule, row) {
+    if !forbid::is_non_overlap_of(block, rule, q.i.number) {
         return count;
     }
     add_rows(block, table, outline, suspects, known, count, q, rule)
@@ -205,29 +187,13 @@ pub fn gather(
 {
     known::forget(known);
     let q = Query { i, s };
-    let n = words::rules_of(block);
     let counted = rules::counting(outline);
-    let mut found = 0;
-    let mut r = 0;
-    while r < n {
+    let mut count = Some(0);
+    for r in 0..words::rules_of(block) {
         if words::is_below(counted, r) {
             break;
         }
-        found = add_rule(block, table, outline, suspects, known, found, q, r);
-        r += 1;
+        count = add_rule(block, table, outline, suspects, known, count, q, r);
     }
-    if found < FULL {
-        return Nearby {
-            i,
-            s,
-            count: found,
-            whole: true,
-        };
-    }
-    Nearby {
-        i,
-        s,
-        count: 0,
-        whole: false,
-    }
+    Nearby { i, s, count }
 }

@@ -1,10 +1,10 @@
-// Known areas: every point of them is forbidden to the row and shape at hand.
+// Known areas: every point of them is forbidden to the row and shape at hand. They are lent as a run of words whose first one counts them, so that
+// no caller carries the count (docs/DECISIONS.md 29).
 ghost use Rattle.std.specs.Prelude.{◌<◌, ◌≤◌, ◌≡◌, eqb, pos, length, set};
 ghost use Rattle.sheet.specs.Accepted.{Head};
 ghost use Rattle.nearby.specs.Places.{known_count, known_most};
 ghost use Rattle.nearby.specs.Known.{Counted, Remembered, KnownRegion};
 
-use forbid::Region;
 use points::ends::AREA_WORDS;
 use points::{Area, COORDINATES, ends};
 
@@ -41,23 +41,22 @@ pub(crate) fn is_none(known: &[i64; KNOWN]) -> bool
 }
 
 // A known area that holds p, if there is one: the last one met is the likeliest.
-pub(crate) fn known_region(block: &[i64], known: &[i64; KNOWN], p: [i64; COORDINATES]) -> Region
+pub(crate) fn known_region(
+    block: &[i64],
+    known: &[i64; KNOWN],
+    p: [i64; COORDINATES],
+) -> Option<Area>
     requires { Head block.now × Counted known.now }
     ensures { KnownRegion block.now known.now p result }
 {
     let k = words::axes_of(block);
-    let mut e = words::count_at(known, COUNT);
-    while e > 0 {
-        e -= 1;
+    for e in (0..words::count_at(known, COUNT)).rev() {
         let at = FIRST + AREA_WORDS * e;
         if ends::area_holds(known, at, k, p) {
-            return Region {
-                hit: true,
-                area: ends::area_at(known, at),
-            };
+            return Some(ends::area_at(known, at));
         }
     }
-    Region::none()
+    None
 }
 
 // Puts one area more, if there is room. Whether there was.

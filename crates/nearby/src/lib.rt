@@ -15,19 +15,17 @@ ghost use Rattle.nearby.specs.Known.{Counted};
 ghost use Rattle.nearby.specs.Listing.{Listed, lists_nothing, Sought};
 
 use crate::known::KNOWN;
-use forbid::Region;
 use outline::OUTLINE;
-use points::COORDINATES;
+use points::{Area, COORDINATES};
 use words::Place;
 
-// A list: the row and the shape for which it is made, how many suspects it holds, and whether these and the known areas hold every point of
-// the row's ranges that is forbidden.
+// A list: the row and the shape for which it is made, and how many suspects it holds. These and the known areas hold every point of the row's
+// ranges that is forbidden; there is no count where the list is not whole.
 #[derive(Clone, Copy)]
 pub struct Nearby {
     pub i: Place,
     pub s: usize,
-    pub count: usize,
-    pub whole: bool,
+    pub count: Option<usize>,
 }
 
 // Whether the list has nothing: then no point of the row's ranges is forbidden.
@@ -35,9 +33,7 @@ pub fn lists_nothing(known: &[i64; KNOWN], nearby: Nearby) -> bool
     requires { Counted known.now }
     ensures { result ≡ lists_nothing nearby known.now }
 {
-    let whole = nearby.whole;
-    let count = nearby.count;
-    whole & (count == 0) & known::is_none(known)
+    (nearby.count == Some(0)) & known::is_none(known)
 }
 
 // Whether p, a point of the row's ranges, is forbidden, and where it is, an area around p in which every point is: a known one, or the one
@@ -50,22 +46,16 @@ pub fn region_at(
     known: &mut [i64; KNOWN],
     nearby: Nearby,
     p: [i64; COORDINATES],
-) -> Region
+) -> Option<Area>
     requires { Sought block.now table.now outline.now nearby suspects.now known.old p }
     ensures { IsRegion (axes block.now)
         (forbidden block.now table.now nearby.i.number nearby.s) p result
         × Listed block.now table.now nearby suspects.now known.new }
 {
-    let x = known::known_region(block, known, p);
-    let met = x.hit;
-    if met {
-        return x;
+    if let Some(area) = known::known_region(block, known, p) {
+        return Some(area);
     }
-    let y = suspect::suspected_region(block, table, outline, suspects, nearby, p);
-    let hit = y.hit;
-    if hit {
-        let area = y.area;
-        known::remember(known, area);
-    }
-    y
+    let area = suspect::suspected_region(block, table, outline, suspects, nearby, p)?;
+    known::remember(known, area);
+    Some(area)
 }

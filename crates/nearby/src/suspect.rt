@@ -1,4 +1,5 @@
-// Suspects: another row and a rule, and an area that holds every point that they can forbid.
+// Suspects: another row and a rule, and an area that holds every point that they can forbid. They are lent as a run of words, which is shorter
+// where there can be few (docs/DECISIONS.md 29, 30).
 ghost use Rattle.std.specs.Prelude.{◌≡◌, ℕ, suc, ◌*◌, ◌≤◌, pos, length};
 ghost use Rattle.std.specs.Int.Count.{ones};
 ghost use Rattle.integers.specs.Words.{word};
@@ -8,12 +9,12 @@ ghost use Rattle.sheet.specs.Allowed.{set_forbids, forbidden};
 ghost use Rattle.sheet.specs.Accepted.{Count, Head, Rows};
 ghost use Rattle.points.specs.Ends.{SameBut};
 ghost use Rattle.outline.specs.Places.{rules_at};
-ghost use Rattle.forbid.specs.Region.{IsRegion, Versus};
+ghost use Rattle.forbid.specs.Region.{IsRegion, AtPoint};
 ghost use Rattle.nearby.specs.Places.{suspect_len, suspect_at, suspect_row, suspect_area};
-ghost use Rattle.nearby.specs.Listing.{Suspected};
+ghost use Rattle.nearby.specs.Listing.{Suspected, SuspectAt, suspect_forbids};
 
 use crate::Nearby;
-use forbid::{Region, row};
+use forbid::row;
 use outline::{OUTLINE, rules};
 use points::ends::AREA_WORDS;
 use points::{Area, COORDINATES, ends};
@@ -54,8 +55,35 @@ pub(crate) fn put_suspect(suspects: &mut [i64], e: usize, r: usize, j: usize, ar
     ends::put_area(suspects, at + AREA, area);
 }
 
-// What forbids p among the suspects whose area holds it, or where the list is not whole among all rules and rows. A row with one shape, as most
-// have, is asked about by that shape alone. Either region is handed back where it is found, since one that may come of two calls is copied.
+// What suspect e forbids at p, if its area holds p. A row with one shape, as most have, is asked about by that shape alone. Either region is
+// handed back where it is found, since one that may come of two calls is copied.
+fn region_of(
+    block: &[i64],
+    table: &[i64],
+    outline: &[i64; OUTLINE],
+    suspects: &[i64],
+    i: Place,
+    s: usize,
+    e: usize,
+    p: [i64; COORDINATES],
+) -> Option<Area>
+    requires { AtPoint block.now table.now outline.now s p × SuspectAt block.now table.now i.number s suspects.now e }
+    ensures { IsRegion (axes block.now) (suspect_forbids block.now table.now i.number s suspects.now p e) p result }
+{
+    let at = SUSPECT * e;
+    if !ends::area_holds(suspects, at + AREA, words::axes_of(block), p) {
+        return None;
+    }
+    let r = words::rule_place(block, words::count_at(suspects, at));
+    let j = words::row_place(block, table, words::count_at(suspects, at + ROW));
+    if words::has_one_shape(block, table, j) {
+        let t = words::lowest_shape(block, table, j);
+        return row::shapes_region(block, table, outline, r, s, j, t, p);
+    }
+    row::set_region(block, table, outline, r, s, j, p)
+}
+
+// What forbids p among the suspects, or where the list is not whole among all rules and rows.
 pub(crate) fn suspected_region(
     block: &[i64],
     table: &[i64],
@@ -63,41 +91,13 @@ pub(crate) fn suspected_region(
     suspects: &[i64],
     nearby: Nearby,
     p: [i64; COORDINATES],
-) -> Region
+) -> Option<Area>
     requires { Suspected block.now table.now outline.now nearby suspects.now p }
     ensures { IsRegion (axes block.now)
         (forbidden block.now table.now nearby.i.number nearby.s) p result }
 {
-    let k = words::axes_of(block);
-    let i = nearby.i;
-    let s = nearby.s;
-    let whole = nearby.whole;
-    if !whole {
-        return forbid::forbidding_region(block, table, outline, i, s, p);
-    }
-    let count = nearby.count;
-    let mut e = 0;
-    while e < count {
-        let at = SUSPECT * e;
-        if ends::area_holds(suspects, at + AREA, k, p) {
-            let r = words::rule_place(block, words::count_at(suspects, at));
-            let j = words::row_place(block, table, words::count_at(suspects, at + ROW));
-            if words::has_one_shape(block, table, j) {
-                let t = words::lowest_shape(block, table, j);
-                let x = row::shapes_region(block, table, outline, r, s, j, t, p);
-                let hit = x.hit;
-                if hit {
-                    return x;
-                }
-            } else {
-                let x = row::set_region(block, table, outline, r, s, j, p);
-                let hit = x.hit;
-                if hit {
-                    return x;
-                }
-            }
-        }
-        e += 1;
-    }
-    Region::none()
+    let Some(count) = nearby.count else {
+        return forbid::forbidding_region(block, table, outline, nearby.i, nearby.s, p);
+    };
+    (0..count).find_map(|e| region_of(block, table, outline, suspects, nearby.i, nearby.s, e, p))
 }

@@ -1,5 +1,6 @@
--- The chain is made box by box, from the last to the first (`chained-start`, `chained_more`), and hangs on its own words alone
--- (`chained-kept`). Assumes nothing.
+-- The chain is made box by box, from the last to the first (`chained_more`), and hangs on its own words alone (`chained-kept`). A shape has a
+-- first box where it has a box (`boxed-first`, `first-none`), and who walks along its chain passes over none of its boxes (`walk`). Assumes
+-- nothing.
 use mathlib.Core.Path.{◌≡◌, sym, ap, ◌∙◌, subst}
 use mathlib.Core.Logic.{◌⊎◌, inl, inr, ⊎_elim}
 use mathlib.Core.Bool.{true, false}
@@ -10,16 +11,18 @@ use native.Mathlib.Omega.{arith}
 use lib.IntN.{ℤ, pos}
 use lib.ListN.{length, set, length-set}
 use lib.Seq.{get_or-set_same, get_or-set_other}
+use Rattle.std.specs.Prelude.{Option, Some, None, MatchOption}
+use Rattle.std.specs.Option.{is_some, unwrap_or}
 use Rattle.integers.specs.Integer.{nat}
 use Rattle.integers.specs.Words.{word}
-use Rattle.integers.proofs.Booleans.{fails}
+use Rattle.integers.proofs.Booleans.{clash, fails}
 use Rattle.integers.proofs.Below.{same_or}
 use Rattle.integers.proofs.Ints.{ints, eq_z-eq, eq-eq_z}
 use Rattle.integers.proofs.Ranges.{pos-nat}
 use Rattle.sheet.specs.Layout.{boxes, shape_of, is_of}
-use Rattle.sheet.specs.Accepted.{Count, Head, Block}
+use Rattle.sheet.specs.Accepted.{Count, Head, Boxed, Block}
 use Rattle.outline.specs.Places.{shapes_most, first_at, rules_at, SameTo}
-use Rattle.outline.specs.Chain.{next_of, first_box_of, Chained, ChainedFrom}
+use Rattle.outline.specs.Chain.{next_of, first_box_of, Chained, ChainedFrom, NoneFrom, FirstFrom}
 
 -- a word that is a small count
 count-is : {z : ℤ} {n : ℕ} → z ≡ pos n → n ≤ 128 → Count z
@@ -36,22 +39,6 @@ shape-own block b s c e = eq-eq_z (sym (pos-nat c.from) ∙ ap pos e)
 
 shape-other : (block : List ℤ) (b s : ℕ) → (nat (shape_of block b) ≡ s → ⊥) → is_of block b s ≡ false
 shape-other block b s f = fails (λ e. f (shape_is block b s e))
-
--- ---- nothing is linked: every shape begins past the last box
-pub chained-start : {block o : List ℤ} → boxes block ≤ 128 → ((s : ℕ) → s < shapes_most → word o (first_at s) ≡ pos (boxes block))
-    → ChainedFrom block o (boxes block)
-chained-start few h = record {
-  first_count = λ s k. count-is (h s k) few;
-  first_from = λ s k. omega (arith, ap nat (h s k));
-  first_upto = λ s k. omega (arith, ap nat (h s k));
-  first_is = λ s k i. absurd (omega (arith, ap nat (h s k)));
-  first_skips = λ s b k m i. absurd (omega (arith, ap nat (h s k)));
-  next_count = λ b m l. absurd (omega arith);
-  next_after = λ b m l. absurd (omega arith);
-  next_upto = λ b m l. absurd (omega arith);
-  next_is = λ s b m l. absurd (omega arith);
-  next_skips = λ s b c m l. absurd (omega arith);
-}
 
 -- ---- one box more, of shape s: its word is where the shape began, and the shape begins with it
 module _ {block o : List ℤ} {b s : ℕ} (accepted : Block block) (x : ChainedFrom block o (b + 1)) (below : b < boxes block)
@@ -145,6 +132,32 @@ module _ {block o : List ℤ} {b s : ℕ} (accepted : Block block) (x : ChainedF
         (x.first_skips s c small (omega arith) (omega (arith, ap nat here))))
         (λ q m l e i j. x.next_skips t q c (omega arith) l e i (omega (arith, ap nat (rest q m l)))) q;
   }
+
+-- ---- a shape has a box where it has a first one
+pub boxed-first : {block : List ℤ} {s : ℕ} (x : Option ℕ) → FirstFrom block s 0 x → is_some x ≡ true → Boxed block s
+boxed-first (Some b) f e = record { box = b; below = f.below; is = f.is }
+boxed-first None f e = absurd (cc)
+
+pub first-none : {block : List ℤ} {s : ℕ} (x : Option ℕ) → FirstFrom block s 0 x → is_some x ≡ false → Boxed block s → ⊥
+first-none (Some b) f e w = absurd (cc)
+first-none None f e w = clash w.is (f w.box (omega arith) w.below)
+
+-- ---- a walk along the chain: all boxes below `upto` are passed, and the one there, where it is a box, is one of the shape
+abbrev pub upto : List ℤ → Option ℕ → ℕ
+upto block x = unwrap_or x (boxes block)
+
+abbrev pub Next : List ℤ → ℕ → Option ℕ → Type 0
+Next block s x = MatchOption x (Unit {0}) (λ b. (b < boxes block) × (is_of block b s ≡ true))
+
+-- from box m on
+pub record Walk (block : List ℤ) (s m : ℕ) (x : Option ℕ) : Type 0 where
+  pub next : Next block s x
+  pub from : m ≤ upto block x
+  pub skips : NoneFrom block s m (upto block x)
+
+pub walk : {block : List ℤ} {s m : ℕ} (x : Option ℕ) → m ≤ boxes block → FirstFrom block s m x → Walk block s m x
+walk (Some b) h f = record { next = (f.below, f.is); from = f.from; skips = f.skips }
+walk None h f = record { next = tt; from = h; skips = f }
 
 -- ---- a run that has the same words
 pub chained-kept : {at : ℕ} {block o o' : List ℤ} → Head block → rules_at ≤ at → SameTo at o o' → Chained block o → Chained block o'

@@ -1,8 +1,8 @@
--- The set of the rules that count is made rule by rule (`counted_none`, `counted-kind`, `counted_same`, `counted-more`); written into
--- an outline it is `Rules` (`rules-of-set`), which hangs on that word alone (`rules-kept`). Assumes nothing.
+-- The set of the rules that count is made rule by rule (`counted_none`, `counted-more`); written into an outline it is `Rules`
+-- (`rules-of-set`), which hangs on that word alone (`rules-kept`). Assumes nothing.
 use mathlib.Core.Path.{◌≡◌, sym, ap, ◌∙◌, subst}
 use mathlib.Core.Logic.{⊎_elim}
-use mathlib.Core.Bool.{true, false}
+use mathlib.Core.Bool.{true}
 use mathlib.Core.List.{List}
 use Prim.Native.Nat.{ℕ, zero, suc, ◌+◌, ◌/◌, ◌%◌, ◌^◌, ◌<◌}
 use native.Mathlib.Numerals.{add-one}
@@ -51,23 +51,6 @@ module _ {block : List ℤ} {m set : ℕ} (x : CountedTo block m set) where
 
   abbrev dims : ℕ → ℕ
   dims r = nat (dim_set block r)
-
-  -- the same set, of one rule more
-  same : (is_non_overlap block m ≡ true → CoveredBy block set m (rows m) (dims m)) → CountedTo block (m + 1) set
-  same f = record {
-    below = omega (arith, x.below, pow_mono {i = m} {j = m + 1} (omega arith));
-    kinds = x.kinds;
-    covered = λ r l e. ⊎_elim
-        (λ p. subst (λ (r : ℕ). is_non_overlap block r ≡ true → CoveredBy block set r (rows r) (dims r)) (sym p) f e)
-        (λ k. x.covered r k e) (last_or (subst (λ (n : ℕ). r < n) (add-one m) l));
-  }
-
-  -- it is of another kind, or covered
-  pub counted-kind : is_non_overlap block m ≡ false → CountedTo block (m + 1) set
-  counted-kind e = same (λ t. clash t e)
-
-  pub counted_same : CoveredBy block set m (rows m) (dims m) → CountedTo block (m + 1) set
-  counted_same c = same (λ t. c)
 
   -- it counts
   module _ (kind : is_non_overlap block m ≡ true) where

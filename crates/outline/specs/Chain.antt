@@ -1,5 +1,5 @@
 -- The boxes of each shape as a chain: its first box, and from each box the next. Assumes nothing.
-use Rattle.std.specs.Prelude.{◌≡◌, true, false, List, ℕ, ◌≤◌, ◌<◌, ℤ}
+use Rattle.std.specs.Prelude.{◌≡◌, true, false, List, ℕ, ◌≤◌, ◌<◌, ℤ, Option, MatchOption}
 use Rattle.integers.specs.Integer.{nat}
 use Rattle.integers.specs.Words.{word}
 use Rattle.sheet.specs.Layout.{boxes, is_of}
@@ -37,6 +37,22 @@ pub record Linked (block o : List ℤ) (b s : ℕ) : Type 0 where
   pub chained : Chained block o
   pub below : b < boxes block
   pub is : is_of block b s ≡ true
+
+module _ (block : List ℤ) (s : ℕ) where
+  -- no box from m on, up to box n, is one of shape s
+  abbrev pub NoneFrom : ℕ → ℕ → Type 0
+  NoneFrom m n = (c : ℕ) → m ≤ c → c < n → is_of block c s ≡ false
+
+  -- box b is the first of shape s from box m on
+  pub record IsFirstFrom (m b : ℕ) : Type 0 where
+    pub from : m ≤ b
+    pub below : b < boxes block
+    pub is : is_of block b s ≡ true
+    pub skips : NoneFrom m b
+
+  -- x is the first box of shape s from box m on, or none where no box from m on is one of it
+  abbrev pub FirstFrom : ℕ → Option ℕ → Type 0
+  FirstFrom m x = MatchOption x (NoneFrom m (boxes block)) (IsFirstFrom m)
 
 -- box b is the one box of shape s
 pub record SoleBox (block : List ℤ) (s b : ℕ) : Type 0 where

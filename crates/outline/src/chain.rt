@@ -1,10 +1,11 @@
 // The boxes of each shape, as a chain from the first to the next, so that no search passes over all boxes.
-ghost use Rattle.std.specs.Prelude.{◌≡◌, true, false, ℕ, ◌+◌, ◌<◌, ◌≤◌, pos};
+ghost use Rattle.std.specs.Prelude.{◌≡◌, true, ℕ, ◌+◌, ◌<◌, ◌≤◌, pos, MatchOption};
+ghost use Rattle.integers.specs.Integer.{nat};
 ghost use Rattle.integers.specs.Words.{word};
-ghost use Rattle.sheet.specs.Layout.{boxes, is_of};
-ghost use Rattle.sheet.specs.Accepted.{Head, Block};
+ghost use Rattle.sheet.specs.Layout.{boxes};
+ghost use Rattle.sheet.specs.Accepted.{Count, Head, Block};
 ghost use Rattle.outline.specs.Places.{shapes_most, first_at};
-ghost use Rattle.outline.specs.Chain.{Chained, ChainedFrom, Linked, Sole};
+ghost use Rattle.outline.specs.Chain.{Chained, ChainedFrom, Linked, FirstFrom, Sole};
 
 use crate::{FIRSTS, OUTLINE, SHAPES, put};
 
@@ -13,10 +14,8 @@ fn unlink(outline: &mut [i64; OUTLINE], n: usize)
     requires { n ≤ 128 }
     ensures { (s : ℕ) → s < shapes_most → word outline.new (first_at s) ≡ pos n }
 {
-    let mut s = 0;
-    while s < SHAPES {
+    for s in 0..SHAPES {
         put(outline, FIRSTS + s, n);
-        s += 1;
     }
 }
 
@@ -39,29 +38,35 @@ pub(crate) fn link_boxes(block: &[i64], outline: &mut [i64; OUTLINE])
 {
     let n = words::boxes_of(block);
     unlink(outline, n);
-    let mut b = n;
-    while b > 0 {
-        b -= 1;
+    for b in (0..n).rev() {
         link(block, outline, b);
     }
 }
 
-// The first box of shape s; the number of boxes where there is none.
-pub fn first_of(block: &[i64], outline: &[i64; OUTLINE], s: usize) -> usize
-    requires { Chained block.now outline.now × (s < shapes_most) }
-    ensures { (result ≤ boxes block.now) × (result < boxes block.now → is_of block.now result s ≡ true)
-        × ((c : ℕ) → c < result → is_of block.now c s ≡ false) }
+// The box that a link names: none where it is the number of boxes. `first_of` does not ask for an accepted block, so `get` reads that number.
+fn linked(block: &[i64], link: i64) -> Option<usize>
+    requires { Count link }
+    ensures { MatchOption result (boxes block.now ≤ nat link)
+        (λ b. (b ≡ nat link) × (b < boxes block.now)) }
 {
-    words::count_at(outline, FIRSTS + s)
+    let n = *block.get(1)?;
+    (link < n).then_some(link as usize)
 }
 
-// The next box of shape s after box b, which is one; the number of boxes where there is none.
-pub fn after(block: &[i64], outline: &[i64; OUTLINE], b: usize, s: usize) -> usize
-    requires { Linked block.now outline.now b s }
-    ensures { (b < result) × (result ≤ boxes block.now) × (result < boxes block.now → is_of block.now result s ≡ true)
-        × ((c : ℕ) → b < c → c < result → is_of block.now c s ≡ false) }
+// The first box of shape s.
+pub fn first_of(block: &[i64], outline: &[i64; OUTLINE], s: usize) -> Option<usize>
+    requires { Chained block.now outline.now × (s < shapes_most) }
+    ensures { FirstFrom block.now s 0 result }
 {
-    words::count_at(outline, b)
+    linked(block, outline[FIRSTS + s])
+}
+
+// The next box of shape s after box b, which is one.
+pub fn after(block: &[i64], outline: &[i64; OUTLINE], b: usize, s: usize) -> Option<usize>
+    requires { Linked block.now outline.now b s }
+    ensures { FirstFrom block.now s (b + 1) result }
+{
+    linked(block, outline[b])
 }
 
 // Whether shape s has one box: no other follows the first.
@@ -69,10 +74,5 @@ pub fn is_single(block: &[i64], outline: &[i64; OUTLINE], s: usize) -> bool
     requires { Head block.now × Chained block.now outline.now × (s < shapes_most) }
     ensures { result ≡ true → Sole block.now s }
 {
-    let n = words::boxes_of(block);
-    let first = first_of(block, outline, s);
-    if first >= n {
-        return false;
-    }
-    after(block, outline, first, s) >= n
+    first_of(block, outline, s).is_some_and(|b| after(block, outline, b, s).is_none())
 }

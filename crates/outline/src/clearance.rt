@@ -11,27 +11,15 @@ fn is_kept_in(block: &[i64], q: Place, r: Place, d: usize) -> bool
     requires { RulePair block.now q r × (d < dims block.now) }
     ensures { result ≡ true → KeepsIn block.now q.number r.number d }
 {
-    if !words::names_dim(block, q, d) {
-        return true;
-    }
-    words::clearance_of(block, r, d) <= words::clearance_of(block, q, d)
+    !words::names_dim(block, q, d)
+        || words::clearance_of(block, r, d) <= words::clearance_of(block, q, d)
 }
 
-// Whether rule q has no less clearance than rule r in any dimension that it names. The loop's bound is a constant, so that it is unrolled.
+// Whether rule q has no less clearance than rule r in any dimension that it names. The range is a constant, so that the loop is unrolled.
 pub(crate) fn is_kept(block: &[i64], q: Place, r: Place) -> bool
     requires { RulePair block.now q r }
     ensures { result ≡ true → Keeps block.now q.number r.number }
 {
     let k = words::dims_of(block);
-    let mut d = 0;
-    while d < COORDINATES {
-        if d == k {
-            return true;
-        }
-        if !is_kept_in(block, q, r, d) {
-            return false;
-        }
-        d += 1;
-    }
-    true
+    (0..COORDINATES).all(|d| d >= k || is_kept_in(block, q, r, d))
 }

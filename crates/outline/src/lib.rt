@@ -7,7 +7,7 @@ mod clearance;
 pub mod rules;
 pub mod solid;
 
-ghost use Rattle.std.specs.Prelude.{◌≡◌, ◌<◌, ◌≤◌, pos, length, set};
+ghost use Rattle.std.specs.Prelude.{◌≡◌, ◌<◌, ◌≤◌, pos, set};
 ghost use Rattle.sheet.specs.Accepted.{Block};
 ghost use Rattle.outline.specs.Outline.{Outline};
 
@@ -33,12 +33,12 @@ const SOLID: usize = AREA_WORDS;
 // The words of an outline: the solids are the boxes, and after them the hulls of the shapes.
 pub const OUTLINE: usize = SOLIDS + SOLID * (BOXES + SHAPES);
 
-// Writes a count, an index or a set into a run: lent as a slice, an array tells its length.
-fn put(run: &mut [i64], at: usize, n: usize)
-    requires { (at < length run.old) × (n ≤ 4294967295) }
-    ensures { run.new ≡ set run.old at (pos n) }
+// Writes a count, an index or a set.
+fn put(outline: &mut [i64; OUTLINE], at: usize, n: usize)
+    requires { (at < OUTLINE) × (n ≤ 4294967295) }
+    ensures { outline.new ≡ set outline.old at (pos n) }
 {
-    run[at] = n as i64;
+    outline[at] = n as i64;
 }
 
 // Makes the outline of a block; its words may have been any.

@@ -20,18 +20,12 @@ fn is_part(a: u32, b: u32) -> bool
     a & b == a
 }
 
-fn dim_set(block: &[i64], r: Place) -> u32
-    requires { Block block.now × RulePlace block.now r }
-    ensures { result ≡ nat (dim_set block.now r.number) }
+// A word that is a set.
+fn set_of(word: i64) -> u32
+    requires { Count word }
+    ensures { result ≡ nat word }
 {
-    words::dim_set_of(block, r) as u32
-}
-
-fn row_set(block: &[i64], r: Place) -> u32
-    requires { Block block.now × RulePlace block.now r }
-    ensures { result ≡ nat (row_set block.now r.number) }
-{
-    words::row_set_of(block, r) as u32
+    word as u32
 }
 
 // Whether rule q is one of the set, names each of the rows and no dimension but those of `dims`, and has no less clearance than rule r.
@@ -39,17 +33,11 @@ fn covers(block: &[i64], set: u32, q: usize, r: Place, rows: u32, dims: u32) -> 
     requires { Block block.now × (q < rules block.now) × RulePlace block.now r }
     ensures { result ≡ true → (bit (pos set) q ≡ true) × Covers block.now r.number rows dims q }
 {
-    if !words::has_member(set, q) {
-        return false;
-    }
     let rule = words::rule_place(block, q);
-    if !is_part(rows, row_set(block, rule)) {
-        return false;
-    }
-    if !is_part(dim_set(block, rule), dims) {
-        return false;
-    }
-    clearance::is_kept(block, rule, r)
+    words::has_member(set, q)
+        && is_part(rows, set_of(words::row_set_of(block, rule)))
+        && is_part(set_of(words::dim_set_of(block, rule)), dims)
+        && clearance::is_kept(block, rule, r)
 }
 
 // Whether some rule below n is such a rule.
@@ -57,14 +45,7 @@ fn is_covered(block: &[i64], set: u32, n: usize, r: Place, rows: u32, dims: u32)
     requires { Block block.now × (n ≤ rules block.now) × RulePlace block.now r }
     ensures { result ≡ true → CoveredBy block.now set r.number rows dims }
 {
-    let mut q = 0;
-    while q < n {
-        if covers(block, set, q, r, rows, dims) {
-            return true;
-        }
-        q += 1;
-    }
-    false
+    (0..n).any(|q| covers(block, set, q, r, rows, dims))
 }
 
 // The set of the rules up to r that count, made from that of the rules below r.
@@ -76,8 +57,8 @@ fn with_rule(block: &[i64], set: u32, r: usize) -> u32
     if !words::is_non_overlap(block, rule) {
         return set;
     }
-    let rows = row_set(block, rule);
-    let dims = dim_set(block, rule);
+    let rows = set_of(words::row_set_of(block, rule));
+    let dims = set_of(words::dim_set_of(block, rule));
     if is_covered(block, set, r, rule, rows, dims) {
         return set;
     }
@@ -89,12 +70,9 @@ fn counted(block: &[i64]) -> u32
     requires { Block block.now }
     ensures { CountedTo block.now (rules block.now) result }
 {
-    let n = words::rules_of(block);
     let mut set = 0;
-    let mut r = 0;
-    while r < n {
+    for r in 0..words::rules_of(block) {
         set = with_rule(block, set, r);
-        r += 1;
     }
     set
 }

@@ -1,5 +1,5 @@
 // Solids: every box of the block, and the hull of every shape that has one, the smallest solid around its boxes.
-ghost use Rattle.std.specs.Prelude.{◌≡◌, ℕ, ◌+◌, ◌<◌, length, set};
+ghost use Rattle.std.specs.Prelude.{◌≡◌, ℕ, ◌+◌, ◌<◌, set};
 ghost use Rattle.points.specs.Area.{coordinates, min_z, max_z};
 ghost use Rattle.sheet.specs.Layout.{dims, boxes};
 ghost use Rattle.sheet.specs.Accepted.{Boxed, Block};
@@ -41,15 +41,14 @@ pub fn extent_of(outline: &[i64; OUTLINE], x: usize, d: usize) -> Extent
     }
 }
 
-// Writes where a solid starts and ends in one dimension, the start at `at`.
-fn put_extent(run: &mut [i64], at: usize, x: Extent)
-    requires { at + coordinates < length run.old }
-    ensures { run.new ≡ set (set run.old at x.start) (at + coordinates) x.end }
+// Puts where solid x starts and ends in dimension d.
+fn put_extent(outline: &mut [i64; OUTLINE], x: usize, d: usize, extent: Extent)
+    requires { (x < solids) × (d < coordinates) }
+    ensures { outline.new ≡ set (set outline.old (solid_at x + d) extent.start) (solid_at x + d + coordinates) extent.end }
 {
-    let start = x.start;
-    let end = x.end;
-    run[at] = start;
-    run[at + COORDINATES] = end;
+    let at = SOLIDS + SOLID * x + d;
+    outline[at] = extent.start;
+    outline[at + COORDINATES] = extent.end;
 }
 
 // ---- boxes
@@ -59,16 +58,11 @@ fn put_box(block: &[i64], outline: &mut [i64; OUTLINE], b: usize)
     requires { Block block.now × (b < boxes block.now) }
     ensures { SameTo (solid_at b) outline.old outline.new × IsBox block.now outline.new b }
 {
-    let k = words::dims_of(block);
     let place = words::box_place(block, b);
-    let at = SOLIDS + SOLID * b;
-    let mut d = 0;
-    while d < k {
+    for d in 0..words::dims_of(block) {
         let start = words::offset_of(block, place, d);
         let end = start + words::size_of(block, place, d);
-        let extent = Extent { start, end };
-        put_extent(outline, at + d, extent);
-        d += 1;
+        put_extent(outline, b, d, Extent { start, end });
     }
 }
 
@@ -77,11 +71,8 @@ pub(crate) fn put_boxes(block: &[i64], outline: &mut [i64; OUTLINE])
     requires { Block block.now }
     ensures { SameTo (solid_at 0) outline.old outline.new × Boxes block.now outline.new }
 {
-    let n = words::boxes_of(block);
-    let mut b = 0;
-    while b < n {
+    for b in 0..words::boxes_of(block) {
         put_box(block, outline, b);
-        b += 1;
     }
 }
 
@@ -92,8 +83,8 @@ pub fn around(a: Extent, b: Extent) -> Extent
     ensures { (result.start ≡ min_z a.start b.start) × (result.end ≡ max_z a.end b.end) }
 {
     Extent {
-        start: points::lesser(a.start, b.start),
-        end: points::larger(a.end, b.end),
+        start: a.start.min(b.start),
+        end: a.end.max(b.end),
     }
 }
 
@@ -102,15 +93,14 @@ fn span(block: &[i64], outline: &[i64; OUTLINE], s: usize, d: usize) -> Extent
     requires { Spanning block.now outline.now s × (d < dims block.now) }
     ensures { Spans block.now s d (boxes block.now) result }
 {
-    let n = words::boxes_of(block);
     let mut hull = Extent {
         start: FAR,
         end: -FAR,
     };
-    let mut b = chain::first_of(block, outline, s);
-    while b < n {
+    let mut next = chain::first_of(block, outline, s);
+    while let Some(b) = next {
         hull = around(hull, extent_of(outline, b, d));
-        b = chain::after(block, outline, b, s);
+        next = chain::after(block, outline, b, s);
     }
     hull
 }
@@ -120,13 +110,10 @@ fn put_hull(block: &[i64], outline: &mut [i64; OUTLINE], s: usize)
     requires { Spanning block.now outline.old s }
     ensures { SameTo (solid_at (hull_of s)) outline.old outline.new × Hull block.now outline.new s }
 {
-    let k = words::dims_of(block);
-    let at = SOLIDS + SOLID * hull_of(s);
-    let mut d = 0;
-    while d < k {
-        let hull = span(block, outline, s, d);
-        put_extent(outline, at + d, hull);
-        d += 1;
+    let hull = hull_of(s);
+    for d in 0..words::dims_of(block) {
+        let extent = span(block, outline, s, d);
+        put_extent(outline, hull, d, extent);
     }
 }
 
@@ -136,12 +123,9 @@ pub(crate) fn put_hulls(block: &[i64], outline: &mut [i64; OUTLINE])
     ensures { SameTo (solid_at (hull_of 0)) outline.old outline.new
         × ((s : ℕ) → Boxed block.now s → Hull block.now outline.new s) }
 {
-    let n = words::boxes_of(block);
-    let mut s = 0;
-    while s < SHAPES {
-        if chain::first_of(block, outline, s) < n {
+    for s in 0..SHAPES {
+        if chain::first_of(block, outline, s).is_some() {
             put_hull(block, outline, s);
         }
-        s += 1;
     }
 }

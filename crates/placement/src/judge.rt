@@ -25,16 +25,12 @@ fn row_forbids(
     requires { Judging block.now table.now outline.now i s p × RulePlace block.now r × RowPlace block.now table.now j }
     ensures { result ≡ named_forbids block.now table.now r.number i.number s p j.number }
 {
-    let other = j.number;
-    if !words::names_row(block, r, other) {
+    if !words::names_row(block, r, j.number) {
         return false;
     }
     let t = words::lowest_shape(block, table, j);
-    if !clash::hulls_clash(block, table, outline, r, s, j, t, p) {
-        return false;
-    }
-    let x = row::shapes_region(block, table, outline, r, s, j, t, p);
-    x.hit
+    clash::hulls_clash(block, table, outline, r, s, j, t, p)
+        && row::shapes_region(block, table, outline, r, s, j, t, p).is_some()
 }
 
 // Whether rule r forbids p to shape s of row i by a row before i.
@@ -50,16 +46,10 @@ fn rows_forbid(
     requires { Judging block.now table.now outline.now i s p × RulePlace block.now r }
     ensures { result ≡ before_forbids block.now table.now r.number i.number s p }
 {
-    let n = i.number - 1;
-    let mut m = 0;
-    while m < n {
+    (0..i.number - 1).any(|m| {
         let j = words::row_place(block, table, m + 1);
-        if row_forbids(block, table, outline, r, i, s, j, p) {
-            return true;
-        }
-        m += 1;
-    }
-    false
+        row_forbids(block, table, outline, r, i, s, j, p)
+    })
 }
 
 // The same of the rule numbered r, which may be of another kind or not name row i.
@@ -76,11 +66,8 @@ fn rule_forbids(
     ensures { result ≡ rule_forbids_before block.now table.now i.number s p r }
 {
     let rule = words::rule_place(block, r);
-    let row = i.number;
-    if !forbid::is_non_overlap_of(block, rule, row) {
-        return false;
-    }
-    rows_forbid(block, table, outline, rule, i, s, p)
+    forbid::is_non_overlap_of(block, rule, i.number)
+        && rows_forbid(block, table, outline, rule, i, s, p)
 }
 
 // Whether some rule forbids p to shape s of row i by a row before i.
@@ -95,15 +82,7 @@ fn is_forbidden(
     requires { Judging block.now table.now outline.now i s p }
     ensures { result ≡ forbidden_before block.now table.now i.number s p }
 {
-    let n = words::rules_of(block);
-    let mut r = 0;
-    while r < n {
-        if rule_forbids(block, table, outline, r, i, s, p) {
-            return true;
-        }
-        r += 1;
-    }
-    false
+    (0..words::rules_of(block)).any(|r| rule_forbids(block, table, outline, r, i, s, p))
 }
 
 // Whether a fixed row stands at its point, with its one shape, as far as its ranges, its rooms and the rows before it say.
@@ -115,8 +94,5 @@ pub(crate) fn row_stands(block: &[i64], table: &[i64], outline: &[i64; OUTLINE],
     let p = crate::origin(block, table, i);
     let k = words::axes_of(block);
     let cut = region::cut_box(block, table, outline, i, s);
-    if !cut.holds(k, p) {
-        return false;
-    }
-    !is_forbidden(block, table, outline, i, s, p)
+    cut.holds(k, p) && !is_forbidden(block, table, outline, i, s, p)
 }

@@ -10,7 +10,7 @@ ghost use Rattle.sheet.specs.Layout.{axes, low};
 ghost use Rattle.sheet.specs.Allowed.{allowed};
 ghost use Rattle.sheet.specs.Placement.{good};
 ghost use Rattle.sheet.specs.Refusal.{refusal_shape, refusal_placement};
-ghost use Rattle.sheet.specs.Answer.{point_answer, verdict_answer};
+ghost use Rattle.sheet.specs.Answer.{answer};
 ghost use Rattle.sheet.specs.Accepted.{Block, Table};
 ghost use Rattle.words.specs.Places.{RowPlace};
 ghost use Rattle.outline.specs.Outline.{Subject};
@@ -18,7 +18,7 @@ ghost use Rattle.placement.specs.Rows.{FixedSheet};
 
 use outline::OUTLINE;
 use points::COORDINATES;
-use sheet::{PointTest, Verdict};
+use sheet::Refusal;
 use words::Place;
 
 // Whether row i with shape s is allowed at p: it is in the cut box, and no rule forbids it.
@@ -35,12 +35,7 @@ fn stands(
 {
     let k = words::axes_of(block);
     let cut = region::cut_box(block, table, outline, i, s);
-    if !cut.holds(k, p) {
-        return false;
-    }
-    let x = forbid::forbidding_region(block, table, outline, i, s, p);
-    let hit = x.hit;
-    !hit
+    cut.holds(k, p) && forbid::forbidding_region(block, table, outline, i, s, p).is_none()
 }
 
 // Whether a row with a shape is allowed at a point. Coordinates are any words: a point outside the ranges is simply not allowed.
@@ -50,21 +45,15 @@ pub fn point_allowed(
     row: i64,
     shape: i64,
     p: [i64; COORDINATES],
-) -> PointTest
-    ensures { result ≡ point_answer (refusal_shape block.now table.now row shape)
+) -> Result<bool, Refusal>
+    ensures { result ≡ answer (refusal_shape block.now table.now row shape)
         (allowed block.now table.now (nat row) (nat shape) p) }
 {
-    let g = accept::shape_refusal(block, table, row, shape);
-    if g > 0 {
-        return PointTest::Refused(g);
-    }
+    accept::check_shape(block, table, row, shape)?;
     let i = words::row_place(block, table, row as usize);
     let mut outline = [0i64; OUTLINE];
     outline::draw(block, &mut outline);
-    if stands(block, table, &outline, i, shape as usize, p) {
-        return PointTest::Allowed;
-    }
-    PointTest::NotAllowed
+    Ok(stands(block, table, &outline, i, shape as usize, p))
 }
 
 // ---- a fixed placement
@@ -75,12 +64,9 @@ fn origin(block: &[i64], table: &[i64], i: Place) -> [i64; COORDINATES]
     ensures { (d : ℕ) → d < axes block.now
         → word result d ≡ low block.now table.now i.number d }
 {
-    let k = words::axes_of(block);
     let mut p = [0i64; COORDINATES];
-    let mut d = 0;
-    while d < k {
+    for d in 0..words::axes_of(block) {
         p[d] = words::low_of(block, table, i, d);
-        d += 1;
     }
     p
 }
@@ -90,29 +76,19 @@ pub fn all_good(block: &[i64], table: &[i64], outline: &[i64; OUTLINE]) -> bool
     requires { FixedSheet block.now table.now outline.now }
     ensures { result ≡ good block.now table.now }
 {
-    let n = words::rows_of(block, table);
-    let mut m = 0;
-    while m < n {
-        if !judge::row_stands(block, table, outline, words::row_place(block, table, m + 1)) {
-            return false;
-        }
-        m += 1;
-    }
-    true
+    (0..words::rows_of(block, table)).all(|m| judge::row_stands(
+        block,
+        table,
+        outline,
+        words::row_place(block, table, m + 1),
+    ))
 }
 
-pub fn check_placement(block: &[i64], table: &[i64]) -> Verdict
-    ensures { result ≡ verdict_answer (refusal_placement block.now table.now)
-        (good block.now table.now) }
+pub fn check_placement(block: &[i64], table: &[i64]) -> Result<bool, Refusal>
+    ensures { result ≡ answer (refusal_placement block.now table.now) (good block.now table.now) }
 {
-    let g = accept::placement_refusal(block, table);
-    if g > 0 {
-        return Verdict::Refused(g);
-    }
+    accept::check_placement(block, table)?;
     let mut outline = [0i64; OUTLINE];
     outline::draw(block, &mut outline);
-    if all_good(block, table, &outline) {
-        return Verdict::Good;
-    }
-    Verdict::NotGood
+    Ok(all_good(block, table, &outline))
 }

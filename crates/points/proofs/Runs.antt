@@ -4,14 +4,13 @@ use mathlib.Core.Path.{◌≡◌, refl, sym, ap, ap₂, ◌∙◌, subst}
 use mathlib.Core.Logic.{◌⊎◌, inl, inr, ⊎_elim}
 use mathlib.Core.List.{List}
 use Prim.Native.Nat.{ℕ, ◌+◌, ◌-◌, ◌≤◌, ◌<◌}
-use native.Mathlib.Numerals.{add-one}
 use native.Mathlib.Omega.{arith}
 use lib.IntN.{ℤ, pos}
 use lib.ListN.{length, set, take, drop, length-set, length-drop}
 use lib.Seq.{get_or-set_same, get_or-set_other, get_or-take, get_or-drop, length-take-le}
 use Rattle.integers.specs.Integer.{within, Within}
 use Rattle.integers.specs.Words.{word, list_below}
-use Rattle.integers.proofs.Below.{same_or, last_or}
+use Rattle.integers.proofs.Below.{same_or}
 use Rattle.integers.proofs.Lists.{words-ext, length-list_below, get_or-list_below}
 use Rattle.points.specs.declared.Area.{Area}
 use Rattle.points.specs.Area.{coordinates, reach, area_words, max_z, min_z, area_by, Cuts, area_of, area_at}
@@ -35,39 +34,6 @@ same_then s t f u = record {
   long = t.long ∙ s.long;
   words = λ x h. t.words x (⊎_elim (λ b. inl (omega arith)) (λ b. inr (omega arith)) h) ∙ s.words x h;
 }
-
--- one word more of those from `at` on
-pub words_more : (l : List ℤ) (at n : ℕ) (w : List ℤ) (z : ℤ) → at + n < length l → z ≡ word w n
-    → ((e : ℕ) → e < n → word l (at + e) ≡ word w e) → (e : ℕ) → e < n + 1 → word (set l (at + n) z) (at + e) ≡ word w e
-words_more l at n w z long q h e k =
-    ⊎_elim
-    (λ p. subst (λ (m : ℕ). word (set l (at + n) z) (at + m) ≡ word w m) (sym p) (get_or-set_same l (at + n) z (pos 0) long ∙ q))
-    (λ m. get_or-set_other l (at + n) (at + e) z (pos 0) (λ p. omega arith) ∙ h e m)
-    (last_or (subst (λ (m : ℕ). e < m) (add-one n) k))
-
--- and one more that is the same number
-pub written : (l : List ℤ) (at n : ℕ) (z : ℤ) → at + n < length l → ((e : ℕ) → e < n → word l (at + e) ≡ z)
-    → (e : ℕ) → e < n + 1 → word (set l (at + n) z) (at + e) ≡ z
-written l at n z long h e k =
-    ⊎_elim
-    (λ p. ap (λ (m : ℕ). word (set l (at + n) z) (at + m)) p ∙ get_or-set_same l (at + n) z (pos 0) long)
-    (λ m. get_or-set_other l (at + n) (at + e) z (pos 0) (λ p. omega arith) ∙ h e m)
-    (last_or (subst (λ (m : ℕ). e < m) (add-one n) k))
-
--- a word written elsewhere
-pub words-other : (l : List ℤ) (at n k : ℕ) (w : List ℤ) (z : ℤ) → (at + n ≤ k) ⊎ (k < at)
-    → ((e : ℕ) → e < n → word l (at + e) ≡ word w e) → (e : ℕ) → e < n → word (set l k z) (at + e) ≡ word w e
-words-other l at n k w z o h e m =
-    get_or-set_other l k (at + e) z (pos 0) (λ p. ⊎_elim (λ b. omega arith) (λ b. omega arith) o) ∙ h e m
-
--- one word more that is read into w
-pub read_more : (l : List ℤ) (at n : ℕ) (w : List ℤ) {z : ℤ} → n < length w → word l (at + n) ≡ z
-    → ((e : ℕ) → e < n → word l (at + e) ≡ word w e) → (e : ℕ) → e < n + 1 → word l (at + e) ≡ word (set w n z) e
-read_more l at n w {z} long q h e k =
-    ⊎_elim
-    (λ p. subst (λ (m : ℕ). word l (at + m) ≡ word (set w n z) m) (sym p) (q ∙ sym (get_or-set_same w n z (pos 0) long)))
-    (λ m. h e m ∙ sym (get_or-set_other w n e z (pos 0) (λ p. omega arith)))
-    (last_or (subst (λ (m : ℕ). e < m) (add-one n) k))
 
 -- ---- an area, word by word
 module _ (l : List ℤ) where

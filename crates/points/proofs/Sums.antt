@@ -8,7 +8,9 @@ use lib.Signed.{mag}
 use mir.Syntax.{w64}
 use mir.Val.{to_z, of_z}
 use mir.Facts.{to_z-of_z}
-use Rattle.integers.specs.Integer.{Within}
+use Rattle.std.specs.Int.{int_max, int_min}
+use Rattle.integers.specs.Integer.{Within, max_z, min_z}
+use Rattle.integers.proofs.Ints.{ints}
 use Rattle.integers.proofs.Machine.{Expr, value_of, size_of, bits_of, fits_word, exact, exact-within, within-fits, within_by, within-weaken}
 use Rattle.points.specs.Area.{reach}
 
@@ -26,3 +28,10 @@ sum_is x t e =
     let l : size_of x ≤ reach = leb→le (size_of x) reach t in
     let u : T (ltb (size_of x) (2 ^ 63)) = lt→ltb (size_of x) (2 ^ 63) (omega arith) in
     (exact x u ∙ e, within_by (exact x u) (within-weaken l (exact-within x u)))
+
+-- ---- the library's larger and lesser of two
+pub max_is : (a b : ℤ) → int_max a b ≡ max_z a b
+max_is a b = grind (arith, ints)
+
+pub min_is : (a b : ℤ) → int_min a b ≡ min_z a b
+min_is a b = grind (arith, ints)

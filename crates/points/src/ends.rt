@@ -5,24 +5,22 @@ ghost use Rattle.integers.specs.Words.{word};
 ghost use Rattle.points.specs.Area.{coordinates, area_words, in_area, CutTo, Cuts, area_at, area_of};
 ghost use Rattle.points.specs.Ends.{end_at, EndsAre, SameBut, Taken};
 
-use crate::{Area, COORDINATES, larger, lesser, lies_between};
+use crate::{Area, COORDINATES, lies_between};
 
 pub const AREA_WORDS: usize = COORDINATES + COORDINATES;
 
 // ---- areas in a longer run
 
-// The area whose words stand from `at` on.
+// The area whose words stand from `at` on. Two calls of `copy_from_slice` here, and in `put_area`, were slower: they go by the stack.
 pub fn area_at(words: &[i64], at: usize) -> Area
     requires { at + area_words ≤ length words.now }
     ensures { result ≡ area_at words.now at }
 {
-    let mut low = [0i64; COORDINATES];
-    let mut high = [0i64; COORDINATES];
-    let mut d = 0;
-    while d < COORDINATES {
+    let mut low = [0; COORDINATES];
+    let mut high = [0; COORDINATES];
+    for d in 0..COORDINATES {
         low[d] = words[at + d];
         high[d] = words[at + COORDINATES + d];
-        d += 1;
     }
     Area { low, high }
 }
@@ -33,8 +31,7 @@ pub fn area_holds(words: &[i64], at: usize, k: usize, p: [i64; COORDINATES]) -> 
     ensures { result ≡ in_area k (area_at words.now at) p }
 {
     let half = at + COORDINATES;
-    let end = at + AREA_WORDS;
-    lies_between(&words[at..half], &words[half..end], k, p)
+    lies_between(&words[at..half], &words[half..at + AREA_WORDS], k, p)
 }
 
 // Puts an area's words from `at` on.
@@ -42,13 +39,9 @@ pub fn put_area(words: &mut [i64], at: usize, area: Area)
     requires { at + area_words ≤ length words.old }
     ensures { SameBut at area_words words.old words.new × (area_at words.new at ≡ area) }
 {
-    let low = area.low;
-    let high = area.high;
-    let mut d = 0;
-    while d < COORDINATES {
-        words[at + d] = low[d];
-        words[at + COORDINATES + d] = high[d];
-        d += 1;
+    for d in 0..COORDINATES {
+        words[at + d] = area.low[d];
+        words[at + COORDINATES + d] = area.high[d];
     }
 }
 
@@ -59,11 +52,7 @@ pub fn ends_at(low: i64, high: i64) -> [i64; AREA_WORDS]
     ensures { EndsAre low high result }
 {
     let mut ends = [low; AREA_WORDS];
-    let mut d = 0;
-    while d < COORDINATES {
-        ends[COORDINATES + d] = high;
-        d += 1;
-    }
+    ends[COORDINATES..].fill(high);
     ends
 }
 
@@ -72,10 +61,7 @@ pub fn end_of(ends: &[i64], d: usize, flip: bool) -> i64
     requires { (length ends.now ≡ area_words) × (d < coordinates) }
     ensures { result ≡ end_at flip d ends.now }
 {
-    if flip {
-        return ends[COORDINATES + d];
-    }
-    ends[d]
+    if flip { ends[COORDINATES + d] } else { ends[d] }
 }
 
 // Cuts the area to low..=high in dimension d.
@@ -83,8 +69,8 @@ pub fn cut(ends: &mut [i64], d: usize, low: i64, high: i64)
     requires { CutTo d low high × (length ends.old ≡ area_words) }
     ensures { (k : ℕ) → d < k → Cuts k (area_of ends.old) (area_of ends.new) (λ p. within low high (word p d)) }
 {
-    ends[d] = larger(ends[d], low);
-    ends[COORDINATES + d] = lesser(ends[COORDINATES + d], high);
+    ends[d] = ends[d].max(low);
+    ends[COORDINATES + d] = ends[COORDINATES + d].min(high);
 }
 
 // Takes every end out to a point.
@@ -92,10 +78,8 @@ pub fn take_in(ends: &mut [i64], p: [i64; COORDINATES])
     requires { length ends.old ≡ area_words }
     ensures { Taken coordinates ends.old p ends.new }
 {
-    let mut d = 0;
-    while d < COORDINATES {
-        ends[d] = lesser(ends[d], p[d]);
-        ends[COORDINATES + d] = larger(ends[COORDINATES + d], p[d]);
-        d += 1;
+    for d in 0..COORDINATES {
+        ends[d] = ends[d].min(p[d]);
+        ends[COORDINATES + d] = ends[COORDINATES + d].max(p[d]);
     }
 }

@@ -6,7 +6,7 @@ pub mod ends; // ends.rt: an area as a run of words
 ghost use Rattle.std.specs.Prelude.{◌≡◌, ℕ, ◌<◌, ◌≤◌, length};
 ghost use Rattle.integers.specs.Integer.{within};
 ghost use Rattle.integers.specs.Words.{word};
-ghost use Rattle.points.specs.Area.{coordinates, max_z, min_z, area_by, in_area, Small, CutTo, Cuts, field_area};
+ghost use Rattle.points.specs.Area.{coordinates, area_by, in_area, Small, CutTo, Cuts, field_area};
 
 // How many coordinates an array of a point holds.
 pub const COORDINATES: usize = sheet::AXES;
@@ -14,35 +14,12 @@ pub const COORDINATES: usize = sheet::AXES;
 // No bound of an area is farther from 0.
 pub const REACH: i64 = 3000000;
 
-// The larger and the lesser of two numbers.
-pub fn larger(a: i64, b: i64) -> i64
-    ensures { result ≡ max_z a b }
-{
-    if a <= b { b } else { a }
-}
-
-pub fn lesser(a: i64, b: i64) -> i64
-    ensures { result ≡ min_z a b }
-{
-    if a <= b { a } else { b }
-}
-
-// Whether p lies from low to high, in the first k dimensions. The loop's bound is a constant: unrolled, it keeps p in registers.
+// Whether p lies from low to high, in the first k dimensions. The range is a constant one: unrolled, it keeps p in registers.
 fn lies_between(low: &[i64], high: &[i64], k: usize, p: [i64; COORDINATES]) -> bool
     requires { (k ≤ length low.now) × (k ≤ length high.now) × (k ≤ coordinates) }
     ensures { result ≡ in_area k (area_by low.now high.now) p }
 {
-    let mut d = 0;
-    while d < COORDINATES {
-        if d == k {
-            return true;
-        }
-        if !words::is_within(p[d], low[d], high[d]) {
-            return false;
-        }
-        d += 1;
-    }
-    true
+    (0..COORDINATES).all(|d| d >= k || words::is_within(p[d], low[d], high[d]))
 }
 
 // The points from low to high, both included, in each dimension.
@@ -57,9 +34,10 @@ impl Area {
     pub fn field() -> Self
         ensures { result ≡ field_area }
     {
-        let low = [-REACH; COORDINATES];
-        let high = [REACH; COORDINATES];
-        Area { low, high }
+        Area {
+            low: [-REACH; COORDINATES],
+            high: [REACH; COORDINATES],
+        }
     }
 
     // The area cut to low..=high in dimension d.
@@ -67,10 +45,8 @@ impl Area {
         requires { CutTo d low high }
         ensures { (k : ℕ) → d < k → Cuts k self result (λ p. within low high (word p d)) }
     {
-        let a = self.low[d];
-        self.low[d] = larger(a, low);
-        let b = self.high[d];
-        self.high[d] = lesser(b, high);
+        self.low[d] = self.low[d].max(low);
+        self.high[d] = self.high[d].min(high);
         self
     }
 
@@ -79,13 +55,9 @@ impl Area {
         requires { (k ≤ coordinates) × Small other }
         ensures { Cuts k self result (in_area k other) }
     {
-        let low = other.low;
-        let high = other.high;
         let mut area = self;
-        let mut d = 0;
-        while d < k {
-            area = area.within(d, low[d], high[d]);
-            d += 1;
+        for d in 0..k {
+            area = area.within(d, other.low[d], other.high[d]);
         }
         area
     }
@@ -95,8 +67,6 @@ impl Area {
         requires { k ≤ coordinates }
         ensures { result ≡ in_area k self p }
     {
-        let low = self.low;
-        let high = self.high;
-        lies_between(&low, &high, k, p)
+        lies_between(&self.low, &self.high, k, p)
     }
 }

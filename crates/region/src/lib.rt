@@ -25,14 +25,12 @@ fn range_ends(block: &[i64], table: &[i64], i: Place) -> [i64; AREA_WORDS]
 {
     let k = words::axes_of(block);
     let mut ends = ends::ends_at(-REACH, REACH);
-    let mut d = 0;
-    while d < COORDINATES {
+    for d in 0..COORDINATES {
         if d == k {
-            return ends;
+            break;
         }
         ends[d] = words::low_of(block, table, i, d);
         ends[COORDINATES + d] = words::high_of(block, table, i, d);
-        d += 1;
     }
     ends
 }
@@ -45,7 +43,6 @@ pub fn cut_box(block: &[i64], table: &[i64], outline: &[i64; OUTLINE], i: Place,
     ensures { CutBox block.now table.now i.number s result }
 {
     let mut ends = range_ends(block, table, i);
-    let row = i.number;
-    rooms::cut_by_rooms(&mut ends, block, outline, row, s);
+    rooms::cut_by_rooms(&mut ends, block, outline, i.number, s);
     ends::area_at(&ends, 0)
 }

@@ -1,28 +1,29 @@
 // The room rules (kind 2) of a row, as cuts of an area in place: `ends` holds its low point, then its high point. Besides acceptance no
 // other code of the kernel reads a room.
-ghost use Rattle.std.specs.Prelude.{◌≡◌, ◌&&◌, ◌<◌, length};
+ghost use Rattle.std.specs.Prelude.{◌≡◌, ◌&&◌, ◌<◌};
 ghost use Rattle.integers.specs.Below.{UpTo};
 ghost use Rattle.sheet.specs.Layout.{dims, axes, rules, is_containment, names_row};
 ghost use Rattle.sheet.specs.Allowed.{rooms_hold};
 ghost use Rattle.sheet.specs.Accepted.{Block};
 ghost use Rattle.words.specs.Places.{RulePlace};
-ghost use Rattle.points.specs.Area.{area_words, Cuts, area_of};
+ghost use Rattle.points.specs.Area.{Cuts, area_of};
 ghost use Rattle.region.specs.Rooms.{side_contained, shape_contained, room_holds, Cutting, CuttingRow};
 
 use outline::{OUTLINE, solid};
+use points::ends::AREA_WORDS;
 use points::{COORDINATES, ends};
 use words::Place;
 
 // Cuts the area to the points at which every box of shape s, and so its hull, lies in rule r's room in dimension d.
 fn cut_by_side(
-    ends: &mut [i64],
+    ends: &mut [i64; AREA_WORDS],
     block: &[i64],
     outline: &[i64; OUTLINE],
     r: Place,
     s: usize,
     d: usize,
 )
-    requires { Cutting block.now outline.now r s × (d < dims block.now) × (length ends.old ≡ area_words) }
+    requires { Cutting block.now outline.now r s × (d < dims block.now) }
     ensures { Cuts (axes block.now) (area_of ends.old) (area_of ends.new)
         (side_contained block.now outline.now r.number s d) }
 {
@@ -33,21 +34,25 @@ fn cut_by_side(
 }
 
 // Cuts the area to the points at which every box of shape s lies in rule r's room. The loop's bound is a constant, so that it is unrolled.
-fn cut_by_shape(ends: &mut [i64], block: &[i64], outline: &[i64; OUTLINE], r: Place, s: usize)
-    requires { Cutting block.now outline.now r s × (length ends.old ≡ area_words) }
+fn cut_by_shape(
+    ends: &mut [i64; AREA_WORDS],
+    block: &[i64],
+    outline: &[i64; OUTLINE],
+    r: Place,
+    s: usize,
+)
+    requires { Cutting block.now outline.now r s }
     ensures { Cuts (axes block.now) (area_of ends.old) (area_of ends.new)
         (shape_contained block.now r.number s) }
 {
     let k = words::dims_of(block);
-    let mut d = 0;
-    while d < COORDINATES {
+    for d in 0..COORDINATES {
         if d == k {
-            return;
+            break;
         }
         if words::names_dim(block, r, d) {
             cut_by_side(ends, block, outline, r, s, d);
         }
-        d += 1;
     }
 }
 
@@ -57,22 +62,19 @@ fn is_room_of(block: &[i64], r: Place, i: usize) -> bool
     ensures { result ≡ (is_containment block.now r.number
         && names_row block.now r.number i) }
 {
-    if words::is_containment(block, r) {
-        return words::names_row(block, r, i);
-    }
-    false
+    words::is_containment(block, r) && words::names_row(block, r, i)
 }
 
 // Cuts the area to the points at which shape s lies in rule r's room, if the rule keeps row i in one.
 fn cut_by_rule(
-    ends: &mut [i64],
+    ends: &mut [i64; AREA_WORDS],
     block: &[i64],
     outline: &[i64; OUTLINE],
     i: usize,
     s: usize,
     r: usize,
 )
-    requires { CuttingRow block.now outline.now i s × (r < rules block.now) × (length ends.old ≡ area_words) }
+    requires { CuttingRow block.now outline.now i s × (r < rules block.now) }
     ensures { Cuts (axes block.now) (area_of ends.old) (area_of ends.new)
         (room_holds block.now i s r) }
 {
@@ -84,20 +86,17 @@ fn cut_by_rule(
 
 // Cuts the area to the points at which shape s lies in every room in which a rule keeps row i.
 pub(crate) fn cut_by_rooms(
-    ends: &mut [i64],
+    ends: &mut [i64; AREA_WORDS],
     block: &[i64],
     outline: &[i64; OUTLINE],
     i: usize,
     s: usize,
 )
-    requires { CuttingRow block.now outline.now i s × (length ends.old ≡ area_words) }
+    requires { CuttingRow block.now outline.now i s }
     ensures { Cuts (axes block.now) (area_of ends.old) (area_of ends.new)
         (rooms_hold block.now i s) }
 {
-    let n = words::rules_of(block);
-    let mut r = 0;
-    while r < n {
+    for r in 0..words::rules_of(block) {
         cut_by_rule(ends, block, outline, i, s, r);
-        r += 1;
     }
 }

@@ -1,4 +1,3 @@
 pub mod Table
 pub mod Extents
-pub mod Answers
 pub mod Promise

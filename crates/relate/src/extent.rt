@@ -45,15 +45,12 @@ pub(crate) fn of_row(block: &[i64], table: &[i64], i: Place, d: usize) -> Extent
     ensures { (result.start ≡ lowest_start block.now table.now i.number d)
         × (result.end ≡ highest_end block.now table.now i.number d) }
 {
-    let n = words::boxes_of(block);
     let mut x = Extent {
         start: FAR,
         end: -FAR,
     };
-    let mut b = 0;
-    while b < n {
+    for b in 0..words::boxes_of(block) {
         x = with_box(block, table, i, words::box_place(block, b), d, x);
-        b += 1;
     }
     x
 }

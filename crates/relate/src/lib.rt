@@ -6,11 +6,12 @@ ghost use Rattle.std.specs.Prelude.{◌≡◌};
 ghost use Rattle.integers.specs.Integer.{nat};
 ghost use Rattle.sheet.specs.Refusal.{refusal_relation};
 ghost use Rattle.sheet.specs.Relation.{compared, relation_between, relation_of};
-ghost use Rattle.sheet.specs.Answer.{standing_answer};
+ghost use Rattle.sheet.specs.Answer.{answer};
 ghost use Rattle.relate.specs.Comparisons.{index_of};
 
 use outline::solid::Extent;
-use sheet::{Allen, Standing};
+use sheet::{Allen, Refusal};
+use std::cmp::Ordering;
 
 mod extent; // extent.rt: where a row starts and ends
 
@@ -30,17 +31,15 @@ const RELATIONS: [[[[Allen; 3]; 3]; 3]; 3] = [
     ],
 ];
 
-// 0 for less, 1 for equal, 2 for greater.
+// Which entry of the table stands for a comparison.
 fn compared(x: i64, y: i64) -> usize
     ensures { result ≡ index_of (compared x y) }
 {
-    if x < y {
-        return 0;
+    match x.cmp(&y) {
+        Ordering::Less => 0,
+        Ordering::Equal => 1,
+        Ordering::Greater => 2,
     }
-    if y < x {
-        return 2;
-    }
-    1
 }
 
 // What the first bears to the second.
@@ -54,18 +53,21 @@ fn between(x: Extent, y: Extent) -> Allen
     RELATIONS[p][q][r][s]
 }
 
-pub fn relation(block: &[i64], table: &[i64], row: i64, other: i64, dimension: i64) -> Standing
-    ensures { result ≡ standing_answer (refusal_relation block.now table.now row other dimension)
+pub fn relation(
+    block: &[i64],
+    table: &[i64],
+    row: i64,
+    other: i64,
+    dimension: i64,
+) -> Result<Allen, Refusal>
+    ensures { result ≡ answer (refusal_relation block.now table.now row other dimension)
         (relation_of block.now table.now (nat row) (nat other) (nat dimension)) }
 {
-    let g = accept::relation::refusal(block, table, row, other, dimension);
-    if g > 0 {
-        return Standing::Refused(g);
-    }
+    accept::relation::check(block, table, row, other, dimension)?;
     let d = dimension as usize;
     let i = words::row_place(block, table, row as usize);
     let j = words::row_place(block, table, other as usize);
-    Standing::Bears(between(
+    Ok(between(
         extent::of_row(block, table, i, d),
         extent::of_row(block, table, j, d),
     ))

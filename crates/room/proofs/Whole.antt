@@ -1,17 +1,19 @@
--- An answer put into the room for it is whole (`answered`); and a table's words after settling. Assumes nothing.
+-- An answer put into the room for it is whole (`answered`). Assumes nothing.
 use mathlib.Core.Path.{◌≡◌, sym}
+use mathlib.Core.Bool.{Bool}
 use mathlib.Core.List.{List, ◌++◌}
 use Prim.Native.Nat.{ℕ, ◌≤◌}
 use native.Mathlib.Omega.{arith}
 use lib.IntN.{ℤ}
 use lib.ListN.{length, take, drop, length-take, length-append}
 use lib.Seq.{take_at, length-take-le}
+use Rattle.std.specs.Prelude.{Result}
 use Rattle.room.specs.Counts.{IsPrefixLen}
 use Rattle.stores.specs.Put.{Put}
 use Rattle.stores.proofs.Puts.{put_as, put-length}
 use Rattle.sheet.specs.Layout.{table_most}
 use Rattle.sheet.specs.Text.{printed}
-use Rattle.sheet.specs.declared.Settling.{Settling}
+use Rattle.sheet.specs.declared.Refusal.{Refusal}
 use Rattle.room.specs.Answers.{answer_most, printed_of}
 use Rattle.room.proofs.Printed.{printed-few}
 
@@ -22,17 +24,9 @@ put-counts {l} {m} {v} {r} a h =
     let fits : r ≤ length m = omega (arith, a.past) in
     (fits, sym (length-take-le r m fits))
 
-pub answered : (text : List ℕ) {l m : List ℕ} {r : ℕ} (f : Settling) (block table : List ℤ) → Put l 0 (printed_of f block (take table_most table)) r m
+pub answered : (text : List ℕ) {l m : List ℕ} {r : ℕ} (f : Result Bool Refusal) (block table : List ℤ) → Put l 0 (printed_of f block (take table_most table)) r m
     → length l ≡ answer_most → printed_of f block (take table_most table) ≡ printed text → Put l 0 (printed text) r m × IsPrefixLen r m
 answered text f block table a h e =
     let short : length (take table_most table) ≤ table_most = rw length-take (omega arith) in
     let few = printed-few f block (take table_most table) short in
     (put_as e a, put-counts a (omega arith))
-
--- the first n words of an array, u, came back from a loan
-module _ (u z : List ℤ) (n : ℕ) (e : length u ≡ n) where
-  pub front : take n (u ++ drop n z) ≡ u
-  front = take_at u (drop n z) n e
-
-  pub front-in : n ≤ length (u ++ drop n z)
-  front-in = let a = length-append u (drop n z) in omega arith

@@ -3,14 +3,14 @@
 
 mod input; // input.rt: reading standard input
 
-ghost use Rattle.std.specs.Prelude.{take};
+ghost use Rattle.std.specs.Prelude.{is_ok, take};
 ghost use Rattle.stores.specs.Put.{Put};
 ghost use Rattle.sheet.specs.Layout.{table_most};
 ghost use Rattle.sheet.specs.Text.{printed};
 ghost use Rattle.room.specs.Answers.{printed_of, response};
-ghost use Rattle.room.specs.Counts.{IsPrefixLen};
+ghost use Rattle.room.specs.Counts.{IsPrefixLen, read_len};
 
-use sheet::Settling;
+use sheet::Refusal;
 use std::io;
 use text::TEXT_BYTES;
 
@@ -25,13 +25,18 @@ const ANSWER: usize = 13000;
 // Puts what is printed for a finding of settling at the start of `out`, as far as there is room; the result is the length needed. Block and
 // table are as settling left them: nothing is checked again. Words past those of the largest table, which no accepted sheet has, are not
 // looked at.
-fn write_answer(finding: Settling, block: &[i64], table: &[i64], out: &mut [u8]) -> usize
+fn write_answer(
+    finding: Result<bool, Refusal>,
+    block: &[i64],
+    table: &[i64],
+    out: &mut [u8],
+) -> usize
     ensures { Put out.old 0 (printed_of finding block.now (take table_most table.now)) result out.new }
 {
     match finding {
-        Settling::Settled => listing::put_settled(out, block, table),
-        Settling::NoLayout => stores::put_bytes(out, 0, b"NO LAYOUT\n"),
-        Settling::Refused(g) => listing::put_refused(out, g),
+        Ok(true) => listing::put_settled(out, block, table),
+        Ok(false) => stores::put_all(out, 0, b"NO LAYOUT\n"),
+        Err(g) => listing::put_refused(out, i64::from(g)),
     }
 }
 
@@ -40,38 +45,36 @@ fn answer(text: &[u8], out: &mut [u8; ANSWER]) -> usize
     ensures put { Put out.old 0 (printed text.now) result out.new }
     ensures prefix_len { IsPrefixLen result out.new }
 {
-    let r = text::read_text(text);
-    let g = r.refusal;
-    let n = r.block_len;
-    let m = r.table_len;
-    let b = r.block;
-    let mut t = r.table;
-    if g > 0 {
-        return write_answer(Settling::Refused(g), &b[..n], &t[..m], out);
+    match text::read_text(text) {
+        Ok(r) => {
+            let mut words = r.table;
+            let block = &r.block[..r.block_len];
+            let table = &mut words[..r.table_len];
+            let found = settle::settle(block, table);
+            write_answer(found, block, table, out)
+        }
+        Err(g) => write_answer(Err(g), &[], &[], out),
     }
-    let found = settle::settle(&b[..n], &mut t[..m]);
-    write_answer(found, &b[..n], &t[..m], out)
 }
 
 // Puts what the program prints at the start of `out`, which has room for it: for a text that was read to its end its answer, and for one that
 // was not its refusal with 1. The other bytes stay. The result is the length.
-fn respond(text: &[u8], whole: bool, out: &mut [u8; ANSWER]) -> usize
-    ensures put { Put out.old 0 (response whole text.now) result out.new }
+fn respond(read: Result<usize, usize>, text: &[u8], out: &mut [u8; ANSWER]) -> usize
+    requires { IsPrefixLen (read_len read) text.now }
+    ensures put { Put out.old 0 (response (is_ok read) (take (read_len read) text.now)) result out.new }
     ensures prefix_len { IsPrefixLen result out.new }
 {
-    if !whole {
-        return listing::put_refused(out, 1);
+    match read {
+        Ok(n) => answer(&text[..n], out),
+        Err(_) => listing::put_refused(out, i64::from(Refusal::BadText)),
     }
-    answer(text, out)
 }
 
 // A failed write ends the program with its error.
 fn main(rt: HostRuntime) -> io::Result<()> {
     let mut text = [0u8; TEXT];
     let mut out = [0u8; ANSWER];
-    let x = input::read_input(&mut rt.stdin(), &mut text);
-    let n = x.len;
-    let whole = x.whole;
-    let m = respond(&text[..n], whole, &mut out);
+    let read = input::read_input(&mut rt.stdin(), &mut text);
+    let m = respond(read, &text, &mut out);
     rt.write_all(&out[..m])
 }

@@ -14,6 +14,7 @@ use Rattle.integers.proofs.Booleans.{clash}
 use Rattle.integers.proofs.Ints.{ints}
 use Rattle.integers.proofs.Lists.{same-eq, same_refl}
 use Rattle.sheet.specs.Layout.{axes, rules, rows}
+use Rattle.sheet.specs.Accepted.{Block, Table}
 use Rattle.sheet.specs.Narrow.{narrow_of}
 use Rattle.sheet.specs.Settle.{settle_of}
 use Rattle.sheet.proofs.Local.{Harmless}
@@ -22,7 +23,7 @@ use Rattle.narrow.specs.Steps.{step_answer}
 use Rattle.narrow.specs.declared.Step.{Step}
 use Rattle.narrow.specs.declared.Step.TheVariants.{NoPlace, Still, Moved}
 use Rattle.settle.specs.Todo.{todo, Touched, Spared}
-use Rattle.settle.proofs.Turns.{todo-no, todo-other}
+use lib.Seq.{get_or-set_other}
 use Rattle.settle.proofs.Worked.{OnTheWay, to_go, worked-none, worked-still, worked-good, worked-moved, worked-falls, less-rows, less-extent}
 
 -- ---- the answer
@@ -58,22 +59,19 @@ unfolding value_or
 left-still t w e h = h ∙ ap (value_or t) e
 
 -- ---- a row that is not to be narrowed any more
-abbrev pub cleared : List ℤ → ℕ → List ℤ
-cleared due i = set due i (pos 0)
+abbrev pub cleared : List Bool → ℕ → List Bool
+cleared due i = set due i false
 
-word-cleared : (due : List ℤ) (i : ℕ) → word (cleared due i) i ≡ pos 1 → ⊥
-word-cleared [] i e = omega ints
-word-cleared (x ∷ xs) zero e = omega ints
-word-cleared (x ∷ xs) (suc i) e = word-cleared xs i e
+cleared_at : (due : List Bool) (i : ℕ) → todo (cleared due i) i ≡ false
+cleared_at [] i = refl
+cleared_at (x ∷ xs) zero = refl
+cleared_at (x ∷ xs) (suc i) = cleared_at xs i
 
-cleared_at : (due : List ℤ) (i : ℕ) → todo (cleared due i) i ≡ false
-cleared_at due i = todo-no (cleared due i) i (word-cleared due i)
-
-cleared-other : {due more : List ℤ} (i m : ℕ) → more ≡ due → (m ≡ i → ⊥) → todo (cleared more i) m ≡ todo due m
-cleared-other {more = more} i m q ne = todo-other more i m (pos 0) ne ∙ ap (λ (l : List ℤ). todo l m) q
+cleared-other : {due more : List Bool} (i m : ℕ) → more ≡ due → (m ≡ i → ⊥) → todo (cleared more i) m ≡ todo due m
+cleared-other {more = more} i m q ne = get_or-set_other more i m false false ne ∙ ap (λ (l : List Bool). todo l m) q
 
 -- ---- one turn: a row, number i + 1, was narrowed in v; its answer is r, and the table left w
-pub record Turn (block : List ℤ) (t v w due : List ℤ) (i row : ℕ) (r : Step) : Type 0 where
+pub record Turn (block : List ℤ) (t v w : List ℤ) (due : List Bool) (i row : ℕ) (r : Step) : Type 0 where
   pub dims : 0 < axes block
   pub way : OnTheWay block t v due
   pub below : i < rows block t
@@ -82,7 +80,21 @@ pub record Turn (block : List ℤ) (t v w due : List ℤ) (i row : ℕ) (r : Ste
   pub told : r ≡ step_answer v (narrow_of block v row)
   pub left : w ≡ value_or v (narrow_of block v row)
 
-module _ {block : List ℤ} {t v w due : List ℤ} {i row : ℕ} {r : Step} (x : Turn block t v w due i row r) where
+pub turn-of : {block t v w : List ℤ} {due : List Bool} {i n row : ℕ} {r : Step} → Block block → Table block t → OnTheWay block t v due
+    → n ≡ rows block t → i < n → row ≡ i + 1 → (r ≡ step_answer v (narrow_of block v row)) × (w ≡ value_or v (narrow_of block v row))
+    → Turn block t v w due i row r
+turn-of accepted table way count below number told =
+    record {
+      dims = accepted.head.some_axes;
+      way = way;
+      below = omega arith;
+      few = table.whole.few_rows;
+      number = number;
+      told = told.0;
+      left = told.1;
+    }
+
+module _ {block : List ℤ} {t v w : List ℤ} {due : List Bool} {i row : ℕ} {r : Step} (x : Turn block t v w due i row r) where
   found : narrow_of block v row ≡ narrow block i v
   found = ap (narrow_of block v) (x.number ∙ add-one i)
 
@@ -98,7 +110,7 @@ module _ {block : List ℤ} {t v w due : List ℤ} {i row : ℕ} {r : Step} (x :
     same : v ≡ w
     same = sym (left-still v w stood x.left)
 
-    module _ {more : List ℤ} (q : more ≡ due) where
+    module _ {more : List Bool} (q : more ≡ due) where
       pub turn-still : OnTheWay block t w (cleared more i)
       turn-still =
           subst (λ (u : List ℤ). OnTheWay block t u (cleared more i)) same
@@ -117,7 +129,7 @@ module _ {block : List ℤ} {t v w due : List ℤ} {i row : ℕ} {r : Step} (x :
     pub turn-good : Good block t w
     turn-good = worked-good block x.dims t v due x.way i x.below w (sym found ∙ moved.0)
 
-    pub turn_moved : {n : ℕ} {set more : List ℤ} → more ≡ set → n ≡ rows block t
+    pub turn_moved : {n : ℕ} {set more : List Bool} → more ≡ set → n ≡ rows block t
         → Touched n due (λ m. (q : ℕ) → q < rules block → Spared block w row q m) set → OnTheWay block t w (cleared more i)
     turn_moved {more = more} q k y =
         worked-moved block x.dims t v due x.way i x.below w (sym found ∙ moved.0) (cleared more i)
@@ -128,7 +140,7 @@ module _ {block : List ℤ} {t v w due : List ℤ} {i row : ℕ} {r : Step} (x :
             subst (λ (j : ℕ). Harmless block w j (suc m)) (x.number ∙ add-one i)
             (record { spares = λ q s p l kind names-i names held ranged. (spared q l kind names-i names).spares s p held ranged })
 
-    pub moved-less : (more : List ℤ) → to_go block (rows block t) w more < to_go block (rows block t) v due
+    pub moved-less : (more : List Bool) → to_go block (rows block t) w more < to_go block (rows block t) v due
     moved-less more =
         less-extent block (rows block t) x.few v w due more
         (worked-falls block x.dims t v due x.way i x.below w (sym found ∙ moved.0) moved.1)

@@ -24,12 +24,12 @@ use Rattle.settle.specs.Todo.{todo}
 
 module _ (block : List ℤ) where
   -- v comes from t by narrowing rows, and narrowing a row that is not to be narrowed moves nothing
-  pub record OnTheWay (t v due : List ℤ) : Type 0 where
+  pub record OnTheWay (t v : List ℤ) (due : List Bool) : Type 0 where
     pub way : Way (Inside block) (Settled block) (Good block t) t v
     pub marks : Marks (narrow block) (rows block t) (todo due) v
 
   -- it falls with each narrowing: the extent with one that moves a word, the number of rows to narrow with any other
-  unfoldable pub to_go : ℕ → List ℤ → List ℤ → ℕ
+  unfoldable pub to_go : ℕ → List ℤ → List Bool → ℕ
   to_go n v due = extent block v * 33 + sum_below n (λ m. cond (todo due m) 1 0)
 
 module _ (block : List ℤ) (dims : 0 < axes block) (t : List ℤ) where
@@ -40,10 +40,10 @@ module _ (block : List ℤ) (dims : 0 < axes block) (t : List ℤ) where
   row_of {v} m g h = subst (λ (k : ℕ). m < k) (sym (rows_same block v t g.as_long)) h
 
   -- ---- the loop
-  pub worked-start : (due : List ℤ) → Good block t t → ((m : ℕ) → m < n → todo due m ≡ true) → OnTheWay block t t due
+  pub worked-start : (due : List Bool) → Good block t t → ((m : ℕ) → m < n → todo due m ≡ true) → OnTheWay block t t due
   worked-start due g h = record { way = way-start (laws block dims t) g; marks = marks-all h }
 
-  module _ (v due : List ℤ) (x : OnTheWay block t v due) where
+  module _ (v : List ℤ) (due : List Bool) (x : OnTheWay block t v due) where
     -- no row is left to narrow
     pub worked-end : ((m : ℕ) → m < n → todo due m ≡ false) → settle_of block t ≡ some v
     unfolding settle_of
@@ -55,7 +55,7 @@ module _ (block : List ℤ) (dims : 0 < axes block) (t : List ℤ) where
       worked-none e = settles-none (laws block dims t) li x.way e
 
       -- nothing moved
-      pub worked-still : (due' : List ℤ) → narrow block i v ≡ some v
+      pub worked-still : (due' : List Bool) → narrow block i v ≡ some v
           → ((m : ℕ) → (m ≡ i → ⊥) → todo due' m ≡ todo due m) → OnTheWay block t v due'
       worked-still due' e same = record { way = x.way; marks = marks-still x.marks e (λ j lt ne c. sym (same j ne) ∙ c) }
 
@@ -69,7 +69,7 @@ module _ (block : List ℤ) (dims : 0 < axes block) (t : List ℤ) where
             narrow-harmless block v w x.way.good.table worked-good.table (suc i) (omega arith) (row_of i x.way.good li) e
             (suc j) (omega arith) (row_of j x.way.good lj) (λ z. ne (omega arith)) harmless (x.marks.clean j lj c)
 
-        pub worked-moved : (due' : List ℤ)
+        pub worked-moved : (due' : List Bool)
             → ((m : ℕ) → m < n → (m ≡ i → ⊥) → todo due' m ≡ false → (todo due m ≡ false) × Harmless block w (suc i) (suc m))
             → OnTheWay block t w due'
         worked-moved due' spared =
@@ -85,10 +85,10 @@ module _ (block : List ℤ) (dims : 0 < axes block) (t : List ℤ) where
         worked-falls ne = ⊎_elim (λ q. absurd (ne q)) (λ l. l) ((laws block dims t).falls li x.way.good e)
 
 -- ---- the measure
-abbrev one : List ℤ → ℕ → ℕ
+abbrev one : List Bool → ℕ → ℕ
 one due m = cond (todo due m) 1 0
 
-one-count : (n : ℕ) (due : List ℤ) → sum_below n (one due) ≤ n
+one-count : (n : ℕ) (due : List Bool) → sum_below n (one due) ≤ n
 unfolding sum_below
 one-count zero due = omega arith
 one-count (suc n) due = by (todo due n) refl (one-count n due)
@@ -99,7 +99,7 @@ one-count (suc n) due = by (todo due n) refl (one-count n due)
 
 module _ (block : List ℤ) (n : ℕ) (few : n ≤ 32) where
   -- a row that moved nothing is done
-  pub less-rows : (v due due' : List ℤ) (i : ℕ) → i < n → todo due i ≡ true → todo due' i ≡ false
+  pub less-rows : (v : List ℤ) (due due' : List Bool) (i : ℕ) → i < n → todo due i ≡ true → todo due' i ≡ false
       → ((m : ℕ) → (m ≡ i → ⊥) → todo due' m ≡ todo due m) → to_go block n v due' < to_go block n v due
   unfolding to_go
   less-rows v due due' i li e e' same =
@@ -113,6 +113,6 @@ module _ (block : List ℤ) (n : ℕ) (few : n ≤ 32) where
           (λ ne. rw (same m ne) (omega arith)) (same_or m i)
 
   -- a word moved
-  pub less-extent : (v w due due' : List ℤ) → extent block w < extent block v → to_go block n w due' < to_go block n v due
+  pub less-extent : (v w : List ℤ) (due due' : List Bool) → extent block w < extent block v → to_go block n w due' < to_go block n v due
   unfolding to_go
   less-extent v w due due' h = omega (arith, one-count n due', mul-le-mul_right 33 h)

@@ -1,37 +1,37 @@
--- Settling by a run of words that says which rows are to be narrowed: a word for each row, 1 while the row may still move.
+-- Settling by a run of tests that says which rows are to be narrowed: a test for each row, true while the row may still move.
 -- Assumes nothing.
-use Rattle.std.specs.Prelude.{◌≡◌, Bool, true, false, List, ℕ, suc, ◌≤◌, ◌<◌, ℤ, pos, length}
+use Rattle.std.specs.Prelude.{◌≡◌, Option, MatchOption, Bool, true, false, List, ℕ, suc, ◌≤◌, ◌<◌, ℤ, get_or}
 use Rattle.std.proofs.Math.Option.{none, some}
-use Rattle.integers.specs.Integer.{eq_z}
-use Rattle.integers.specs.Words.{word}
-use Rattle.sheet.specs.Layout.{rows_most, is_non_overlap, names_row, rows}
+use Rattle.sheet.specs.Layout.{is_non_overlap, names_row, rows}
 use Rattle.sheet.specs.Settle.{settle_of}
-use Rattle.sheet.specs.Answer.{settle_answer, table_after}
-use Rattle.sheet.specs.declared.Settling.{Settling}
+use Rattle.sheet.specs.Answer.{is_found, table_after}
 use Rattle.words.specs.declared.Place.{Place}
 use Rattle.outline.specs.Outline.{OnRow}
 use Rattle.nearby.specs.Due.{HarmlessBy}
 
 -- row m + 1 is to be narrowed
-unfoldable pub todo : List ℤ → ℕ → Bool
-todo due m = eq_z (word due m) (pos 1)
+abbrev pub todo : List Bool → ℕ → Bool
+todo due m = get_or due m false
 
--- row r + 1 is to be narrowed, or r is n and none of the first n rows is
-pub record Next (due : List ℤ) (n r : ℕ) : Type 0 where
-  pub upto : r ≤ n
-  pub set : r < n → todo due r ≡ true
-  pub none : r ≡ n → (m : ℕ) → m < n → todo due m ≡ false
+-- r is the first index from a on and below b of a row that is to be narrowed, or there is none
+abbrev pub FirstDue : List Bool → ℕ → ℕ → Option ℕ → Type 0
+FirstDue due a b r =
+    MatchOption r ((m : ℕ) → a ≤ m → m < b → todo due m ≡ false)
+    (λ i. (a ≤ i) × (i < b) × (todo due i ≡ true) × ((m : ℕ) → a ≤ m → m < i → todo due m ≡ false))
 
--- more is due with further words set: a row that is not to be narrowed was not to be before, and is spared
-pub record Touched (n : ℕ) (due : List ℤ) (spared : ℕ → Type 0) (more : List ℤ) : Type 0 where
+-- r is the index of one of the first n rows that is to be narrowed, or there is none
+abbrev pub Next : List Bool → ℕ → Option ℕ → Type 0
+Next due n r = MatchOption r ((m : ℕ) → m < n → todo due m ≡ false) (λ i. (i < n) × (todo due i ≡ true))
+
+-- more is due with further rows set: a row that is not to be narrowed was not to be before, and is spared
+pub record Touched (n : ℕ) (due : List Bool) (spared : ℕ → Type 0) (more : List Bool) : Type 0 where
   pub left : (m : ℕ) → m < n → todo more m ≡ false → (todo due m ≡ false) × spared m
 
 module _ (block : List ℤ) where
-  -- row i, which moved, the number of rows, and a word for each row that a table may have
-  pub record Touching (t o : List ℤ) (i : Place) (n : ℕ) (due : List ℤ) : Type 0 where
+  -- row i, which moved, and the number of rows
+  pub record Touching (t o : List ℤ) (i : Place) (n : ℕ) : Type 0 where
     pub on : OnRow block t o i
     pub count : n ≡ rows block t
-    pub long : length due ≡ rows_most
 
   -- if rule r keeps rows i and m + 1 apart, row i forbids row m + 1 no point of its ranges by it
   abbrev pub Spared : List ℤ → ℕ → ℕ → ℕ → Type 0
@@ -42,6 +42,6 @@ module _ (block : List ℤ) where
     pub yes : r ≡ true → settle_of block t ≡ some v
     pub no : r ≡ false → settle_of block t ≡ none
 
-  -- the finding on a table t that is accepted, and what is left in its place
-  abbrev pub Answered : List ℤ → Settling → List ℤ → Type 0
-  Answered t finding left = (finding ≡ settle_answer 0 (settle_of block t)) × (left ≡ table_after 0 t (settle_of block t))
+  -- whether a settled table lies inside a table t that is accepted, and what is left in its place
+  abbrev pub Answered : List ℤ → Bool → List ℤ → Type 0
+  Answered t found left = (found ≡ is_found (settle_of block t)) × (left ≡ table_after 0 t (settle_of block t))

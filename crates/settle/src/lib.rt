@@ -11,7 +11,7 @@ ghost use Rattle.words.specs.Places.{RulePlace};
 ghost use Rattle.outline.specs.Outline.{Outline, OnRow};
 ghost use Rattle.outline.specs.Places.{rules_at};
 ghost use Rattle.nearby.specs.Due.{HarmlessBy};
-ghost use Rattle.settle.specs.Todo.{Next, Touching, Spared, Touched, FoundBy, Answered};
+ghost use Rattle.settle.specs.Todo.{FirstDue, Next, Touching, Spared, Touched, FoundBy, Answered};
 ghost use Rattle.settle.specs.Demand.{Promise};
 
 use narrow::Step;
@@ -19,31 +19,23 @@ use nearby::known::KNOWN;
 use nearby::suspect::{FEW, FEW_WORDS, MANY_WORDS};
 use nearby::{due, suspect};
 use outline::{OUTLINE, rules};
-use sheet::{ROWS, Settling, TABLE_WORDS};
+use sheet::{ROWS, Refusal, TABLE_WORDS};
 use words::Place;
 
-// The number, or where it is not below n the number less n.
-fn wrapped(m: usize, n: usize) -> usize
-    requires { m < n + n }
-    ensures { (result < n) × ((result ≡ m) ⊎ (result + n ≡ m)) }
+// The first row from row from + 1 to row `to` that is to be narrowed: its index.
+fn first_due(due: &[bool; ROWS], from: usize, to: usize) -> Option<usize>
+    requires { to ≤ rows_most }
+    ensures { FirstDue due.now from to result }
 {
-    if m < n { m } else { m - n }
+    (from..to).find(|m| due[*m])
 }
 
-// The first row from row at + 1 on, in turn, that is to be narrowed: its word's index, or n where there is none.
-fn next_row(due: &[i64], n: usize, at: usize) -> usize
-    requires { (n ≤ rows_most) × (at ≤ n) × (length due.now ≡ rows_most) }
+// The first row from row at + 1 on, in turn, that is to be narrowed.
+fn next_row(due: &[bool; ROWS], n: usize, at: usize) -> Option<usize>
+    requires { (n ≤ rows_most) × (at ≤ n) }
     ensures { Next due.now n result }
 {
-    let mut j = 0;
-    while j < n {
-        let m = wrapped(at + j, n);
-        if due[m] == 1 {
-            return m;
-        }
-        j += 1;
-    }
-    n
+    first_due(due, at, n).or_else(|| first_due(due, 0, at))
 }
 
 // Whether rule r names row m + 1, and row i can forbid it some point of its ranges by that rule.
@@ -66,42 +58,38 @@ fn threatens(
     due::threatens_row(block, table, outline, r, i, row)
 }
 
-// Sets the words of the rows that row i threatens by rule r: they are to be narrowed too.
+// Marks the rows that row i threatens by rule r: they are to be narrowed too.
 fn touched_by(
     block: &[i64],
     table: &[i64],
     outline: &[i64; OUTLINE],
-    due: &mut [i64],
+    due: &mut [bool; ROWS],
     i: Place,
     n: usize,
     r: Place,
 )
-    requires { Touching block.now table.now outline.now i n due.old × RulePlace block.now r }
+    requires { Touching block.now table.now outline.now i n × RulePlace block.now r }
     ensures { Touched n due.old (Spared block.now table.now i.number r.number)
         due.new }
 {
-    let mut m = 0;
-    while m < n {
-        if due[m] != 1 {
-            if threatens(block, table, outline, i, r, m) {
-                due[m] = 1;
-            }
+    for m in 0..n {
+        if !due[m] && threatens(block, table, outline, i, r, m) {
+            due[m] = true;
         }
-        m += 1;
     }
 }
 
-// Sets the words of the rows that row i threatens by rule r, if the rule counts, is a non-overlap rule and names row i.
+// Marks the rows that row i threatens by rule r, if the rule counts, is a non-overlap rule and names row i.
 fn touched_if(
     block: &[i64],
     table: &[i64],
     outline: &[i64; OUTLINE],
-    due: &mut [i64],
+    due: &mut [bool; ROWS],
     i: Place,
     n: usize,
     r: usize,
 )
-    requires { Touching block.now table.now outline.now i n due.old × (r < rules block.now) }
+    requires { Touching block.now table.now outline.now i n × (r < rules block.now) }
     ensures { Touched n due.old (λ m. bit (word outline.now rules_at) r ≡ true
         → Spared block.now table.now i.number r m) due.new }
 {
@@ -109,35 +97,31 @@ fn touched_if(
         return;
     }
     let rule = words::rule_place(block, r);
-    let row = i.number;
-    if !forbid::is_non_overlap_of(block, rule, row) {
-        return;
+    if forbid::is_non_overlap_of(block, rule, i.number) {
+        touched_by(block, table, outline, due, i, n, rule);
     }
-    touched_by(block, table, outline, due, i, n, rule);
 }
 
-// Sets the words of the rows that row i, which moved, threatens by some rule: no further than the last rule that counts.
+// Marks the rows that row i, which moved, threatens by some rule: no further than the last rule that counts.
 fn touched(
     block: &[i64],
     table: &[i64],
     outline: &[i64; OUTLINE],
-    due: &mut [i64],
+    due: &mut [bool; ROWS],
     i: Place,
     n: usize,
 )
-    requires { Touching block.now table.now outline.now i n due.old }
+    requires { Touching block.now table.now outline.now i n }
     ensures { Touched n due.old (λ m. (r : ℕ) → r < rules block.now
         → Spared block.now table.now i.number r m) due.new }
 {
     let count = words::rules_of(block);
     let counted = rules::counting(outline);
-    let mut r = 0;
-    while r < count {
+    for r in 0..count {
         if words::is_below(counted, r) {
             break;
         }
         touched_if(block, table, outline, due, i, n, r);
-        r += 1;
     }
 }
 
@@ -154,63 +138,52 @@ fn settle_rows(
 {
     let n = words::rows_of(block, table);
     let mut known = [0i64; KNOWN];
-    let mut due = [1i64; ROWS];
+    let mut due = [true; ROWS];
     let mut at = 0;
-    loop {
-        let i = next_row(&due, n, at);
-        if i == n {
-            return true;
-        }
+    while let Some(i) = next_row(&due, n, at) {
         let row = words::row_place(block, table, i + 1);
         match narrow::narrow_row(block, table, outline, suspects, &mut known, row) {
-            Step::NoPlace => {
-                return false;
-            }
+            Step::NoPlace => return false,
             Step::Still => {}
-            Step::Moved => {
-                touched(block, table, outline, &mut due, row, n);
-            }
+            Step::Moved => touched(block, table, outline, &mut due, row, n),
         }
-        due[i] = 0;
+        due[i] = false;
         at = i;
     }
+    true
 }
 
-// Settles the table of an accepted sheet, or leaves it as it was. The suspects' words may have been any.
+// Settles the table of an accepted sheet, or leaves it as it was. Whether a settled table lies inside it. The suspects' words may have been any.
 fn settle_in(
     block: &[i64],
     table: &mut [i64],
     outline: &[i64; OUTLINE],
     suspects: &mut [i64],
-) -> Settling
+) -> bool
     requires { Block block.now × Table block.now table.old × Outline block.now outline.now }
     ensures { Answered block.now table.old result table.new }
 {
-    let n = table.len();
-    let mut work = [0i64; TABLE_WORDS];
-    words::copy(&mut work[..n], table);
-    if !settle_rows(block, &mut work[..n], outline, suspects) {
-        return Settling::NoLayout;
+    let mut words = [0i64; TABLE_WORDS];
+    let work = &mut words[..table.len()];
+    work.copy_from_slice(table);
+    let found = settle_rows(block, work, outline, suspects);
+    if found {
+        table.copy_from_slice(work);
     }
-    words::copy(table, &work[..n]);
-    Settling::Settled
+    found
 }
 
-// The kernel's operation: settles the table of a sheet, or leaves it as it was.
-pub fn settle(block: &[i64], table: &mut [i64]) -> Settling
+// The kernel's operation: settles the table of a sheet, or leaves it as it was. Whether a settled table lies inside it.
+pub fn settle(block: &[i64], table: &mut [i64]) -> Result<bool, Refusal>
     ensures { Promise block.now table.old result table.new }
 {
-    let g = accept::refusal(block, table);
-    if g > 0 {
-        return Settling::Refused(g);
-    }
+    accept::check(block, table)?;
     let mut outline = [0i64; OUTLINE];
     outline::draw(block, &mut outline);
-    let most = suspect::most(block, table, &outline);
-    if most <= FEW {
-        let mut suspects = [0i64; FEW_WORDS];
-        return settle_in(block, table, &outline, &mut suspects);
-    }
-    let mut suspects = [0i64; MANY_WORDS];
-    settle_in(block, table, &outline, &mut suspects)
+    let found = if suspect::most(block, table, &outline) <= FEW {
+        settle_in(block, table, &outline, &mut [0i64; FEW_WORDS])
+    } else {
+        settle_in(block, table, &outline, &mut [0i64; MANY_WORDS])
+    };
+    Ok(found)
 }

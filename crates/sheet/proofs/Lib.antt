@@ -1,4 +1,5 @@
 pub mod Accepted
+pub mod Answer
 pub mod Forbidden
 pub mod Coordinates
 pub mod Exchange

@@ -1,15 +1,45 @@
 -- Document 01, "Grounds for turning a sheet away, in checking order": the checks 2 to 12, and of document 02 13 to 15 (T-03) and 16 (T-06); the first
 -- that applies for each kind of call (a refusal is the document's ground; 0 means that none applies), and the row slice. Row, shape, dimension
 -- and rule that are asked about are words; they are read as numbers once their checks have passed. Check 1 is in Text.antt. Assumes nothing.
-use Rattle.std.specs.Prelude.{Bool, true, false, not, ◌&&◌, ◌||◌, List, [], ℕ, zero, suc, ◌*◌, eqb, leb, ltb, length, take, drop, ℤ, pos}
+use Rattle.std.specs.Prelude.{Bool, true, false, not, ◌&&◌, ◌||◌, List, [], ◌∷◌, ℕ, zero, suc, ◌*◌, eqb, leb, ltb, length, get_or, take, drop, ℤ, pos}
 use Rattle.std.specs.Int.Signed.{le_z, lt_z}
 use Rattle.integers.specs.Integer.{nat, within}
 use Rattle.integers.specs.Below.{all_below, all_up_to}
 use Rattle.integers.specs.Words.{word}
+use Rattle.sheet.specs.declared.Refusal.{Refusal}
+use Rattle.sheet.specs.declared.Refusal.TheVariants as G
 use Rattle.sheet.specs.Layout.{layout_rows_most, dims, axes, boxes, rules, row_len, block_length}
 use Rattle.sheet.specs.Layout.{row_at, valid_box, valid_rule, rows, has_shape, valid_row}
 use Rattle.sheet.specs.Placement.{fixed, good}
 use Rattle.sheet.specs.Fill.{rule_asked, is_fill_rule, room_cells}
+
+-- a refusal's number
+unfoldable pub refusal_number : Refusal → ℕ
+refusal_number G.BadText = 1
+refusal_number G.BadHead = 2
+refusal_number G.BadCounts = 3
+refusal_number G.BadBlockLength = 4
+refusal_number G.BadTableLength = 5
+refusal_number G.BadBox = 6
+refusal_number G.BadRule = 7
+refusal_number G.BadRow = 8
+refusal_number G.NoSuchRow = 9
+refusal_number G.NoSuchShape = 10
+refusal_number G.NoSuchDim = 11
+refusal_number G.NotFixed = 12
+refusal_number G.NoFillRule = 13
+refusal_number G.BadCells = 14
+refusal_number G.NotGood = 15
+refusal_number G.TooManyRows = 16
+
+-- the refusals in the order of their numbers, and the one with number n + 1
+unfoldable pub grounds : List Refusal
+grounds =
+    G.BadText ∷ G.BadHead ∷ G.BadCounts ∷ G.BadBlockLength ∷ G.BadTableLength ∷ G.BadBox ∷ G.BadRule ∷ G.BadRow
+    ∷ G.NoSuchRow ∷ G.NoSuchShape ∷ G.NoSuchDim ∷ G.NotFixed ∷ G.NoFillRule ∷ G.BadCells ∷ G.NotGood ∷ G.TooManyRows ∷ []
+
+unfoldable pub ground : ℕ → Refusal
+ground n = get_or grounds n G.TooManyRows
 
 -- a refusal's number where its check applies, and 0 where it does not
 infix 20 ◌when◌
@@ -142,7 +172,7 @@ module _ (block : List ℤ) where
 
 -- one name that opens every definition above: `unfolding refusing`
 unfoldable pub refusing : Unit {0}
-unfolding ◌when◌ ◌else◌ bad_head bad_counts bad_block_length bad_box no_box_dim no_fill_rule bad_cells bad_table_length bad_rule bad_row no_such_row
+unfolding refusal_number grounds ground ◌when◌ ◌else◌ bad_head bad_counts bad_block_length bad_box no_box_dim no_fill_rule bad_cells bad_table_length bad_rule bad_row no_such_row
     no_such_shape no_such_dim not_fixed not_good too_many_rows refusal refusal_row refusal_shape refusal_dim refusal_placement refusal_relation
     refusal_fill refusal_layout slice_unless row_slice start_unless row_start
 refusing = tt

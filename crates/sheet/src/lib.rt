@@ -1,6 +1,10 @@
 // The meaning of a room sheet (document 01): the definitions are in specs/, their theorems in proofs/, and here are the limits of a sheet
-// and the answers of the kernel's operations. specs/Answer.antt says which answer stands for which finding; a refusal holds its number.
+// and what the kernel's operations answer with. specs/Answer.antt says which answer stands for which finding.
 #![tactic(auto)]
+
+ghost use Rattle.std.specs.Prelude.{◌≡◌, pos};
+ghost use Rattle.sheet.specs.Relation.{relation_number};
+ghost use Rattle.sheet.specs.Refusal.{refusal_number};
 
 // ---- the limits that code makes room by
 
@@ -27,52 +31,41 @@ pub const LAYOUT_ROWS: usize = 8;
 
 pub const LAYOUT_WORDS: usize = LAYOUT_ROWS * (1 + 2 * AXES);
 
-// ---- answers
+// ---- grounds for turning a call away (documents 01 and 02)
 
-// Whether a row with a shape is allowed at a point.
-#[derive(Clone, Copy)]
-pub enum PointTest {
-    Allowed,
-    NotAllowed,
-    Refused(i64),
+// A refusal is the document's ground, with its number there; specs/Refusal.antt has the check of each by its name.
+#[derive(Clone, Copy, PartialEq, Eq)]
+pub enum Refusal {
+    BadText = 1,
+    BadHead = 2,
+    BadCounts = 3,
+    BadBlockLength = 4,
+    BadTableLength = 5,
+    BadBox = 6,
+    BadRule = 7,
+    BadRow = 8,
+    NoSuchRow = 9,
+    NoSuchShape = 10,
+    NoSuchDim = 11,
+    NotFixed = 12,
+    NoFillRule = 13,
+    BadCells = 14,
+    NotGood = 15,
+    TooManyRows = 16,
 }
 
-// Whether a fixed placement is good.
-#[derive(Clone, Copy)]
-pub enum Verdict {
-    Good,
-    NotGood,
-    Refused(i64),
-}
+impl From<Refusal> for i64 {
+    ghost from_gives = { λ g z. z ≡ pos (refusal_number g) };
 
-// The least or the greatest coordinate of the allowed points, if there is such a point.
-#[derive(Clone, Copy)]
-pub enum Bound {
-    At(i64),
-    Nothing,
-    Refused(i64),
-}
-
-// What narrowing one row found.
-#[derive(Clone, Copy)]
-pub enum Narrowing {
-    Narrowed,
-    NoPlace,
-    Refused(i64),
-}
-
-// What settling the table found.
-#[derive(Clone, Copy)]
-pub enum Settling {
-    Settled,
-    NoLayout,
-    Refused(i64),
+    fn from(g: Refusal) -> i64 {
+        g as i64
+    }
 }
 
 // ---- how two rows stand to each other (document 02, T-01)
 
 // The relations of document 004, with their numbers in the request's order; specs/Relation.antt has the rule of each.
-#[derive(Clone, Copy)]
+#[derive(Clone, Copy, PartialEq, Eq)]
 pub enum Allen {
     Precedes = 1,
     Meets = 2,
@@ -89,28 +82,19 @@ pub enum Allen {
     PrecededBy = 13,
 }
 
-// Which of them the one row bears to the other.
-#[derive(Clone, Copy)]
-pub enum Standing {
-    Bears(Allen),
-    Refused(i64),
+impl From<Allen> for i64 {
+    ghost from_gives = { λ x z. z ≡ pos (relation_number x) };
+
+    fn from(x: Allen) -> i64 {
+        x as i64
+    }
 }
 
 // ---- the fill of a room (document 02, T-03)
 
 // How many cells of the room are covered, and how many thousandths of it they are.
-#[derive(Clone, Copy)]
-pub enum Share {
-    Of(i64, i64),
-    Refused(i64),
-}
-
-// ---- the first whole layout (document 02, T-06)
-
-// Whether a good placement lies inside the table; the first of them is then written over it.
-#[derive(Clone, Copy)]
-pub enum Layout {
-    Placed,
-    Nothing,
-    Refused(i64),
+#[derive(Clone, Copy, PartialEq, Eq)]
+pub struct Share {
+    pub cells: usize,
+    pub permille: usize,
 }

@@ -1,5 +1,5 @@
 -- How a number that can be split is picked, row by row and column by column. Assumes nothing.
-use Rattle.std.specs.Prelude.{◌≡◌, true, List, ℕ, ◌≤◌, ◌<◌, ℤ}
+use Rattle.std.specs.Prelude.{◌≡◌, true, List, ℕ, ◌≤◌, ◌<◌, ℤ, Option, MatchOption}
 use Rattle.sheet.specs.Layout.{axes}
 use Rattle.sheet.specs.Placement.{row_fixed}
 use Rattle.sheet.specs.Accepted.{Table}
@@ -26,14 +26,20 @@ module _ (block : List ℤ) (t : List ℤ) where
     pub none : r ≡ 0 → Single block t i c
     pub some : 0 < r → Several block t i c
 
-  -- the first column of row i that can be split, or one past its columns
-  pub record OpenColumn (i c : ℕ) : Type 0 where
-    pub none : axes block < c → row_fixed block t i ≡ true
-    pub some : c ≤ axes block → Several block t i c
+  -- the first column of row i that can be split; none where the row is fixed
+  abbrev pub OpenColumn : ℕ → Option ℕ → Type 0
+  OpenColumn i r = MatchOption r (row_fixed block t i ≡ true) (λ c. (c ≤ axes block) × Several block t i c)
 
-  -- the greatest gain of the rows before row m and of the columns before column c of row m
-  pub record Gains (m c : ℕ) (g : Gain) : Type 0 where
-    pub rows_none : g.gain ≡ 0 → (i : ℕ) → 1 ≤ i → i < m → row_fixed block t i ≡ true
-    pub row_none : g.gain ≡ 0 → (e : ℕ) → e < c → Single block t m e
-    pub has : 0 < g.gain → HasNumber block t g.row g.column
-    pub some : 0 < g.gain → Several block t g.row g.column
+  -- the rows before row m are fixed, and the columns before column c of row m have one value each
+  pub record Passed (m c : ℕ) : Type 0 where
+    pub rows : (i : ℕ) → 1 ≤ i → i < m → row_fixed block t i ≡ true
+    pub columns : (e : ℕ) → e < c → Single block t m e
+
+  -- number c of row i can be split
+  pub record CanSplit (i c : ℕ) : Type 0 where
+    pub has : HasNumber block t i c
+    pub some : Several block t i c
+
+  -- the greatest gain of the rows before row m and of the columns before column c of row m; none where nothing is gained there
+  abbrev pub Gains : ℕ → ℕ → Option Gain → Type 0
+  Gains m c r = MatchOption r (Passed m c) (λ g. CanSplit g.row g.column)

@@ -1,5 +1,5 @@
 -- What a split of a table leans on, and what its two parts are. Assumes nothing.
-use Rattle.std.specs.Prelude.{◌≡◌, Bool, true, ◌&&◌, List, ℕ, ◌<◌, ℤ, pos, ◌+ℤ◌, ◌≤ℤ◌, ◌<ℤ◌}
+use Rattle.std.specs.Prelude.{◌≡◌, Bool, true, ◌&&◌, List, ℕ, ℤ, pos, ◌+ℤ◌, ◌≤ℤ◌, ◌<ℤ◌, Option, MatchOption}
 use Rattle.integers.specs.Integer.{minus, within}
 use Rattle.integers.specs.Bits.{holds}
 use Rattle.sheet.specs.Placement.{fixed}
@@ -46,10 +46,9 @@ module _ (block : List ℤ) (t : List ℤ) where
     pub opens : is_open block t i c next ≡ true
     pub past : z <ℤ next
 
-  -- what is picked: a number that can be split at the value; row 0 where the table is fixed
-  pub record Picked (r : Split) : Type 0 where
-    pub none : r.row ≡ 0 → fixed block t ≡ true
-    pub some : 0 < r.row → SplitAt r.row r.column r.at
+  -- what is picked: a number that can be split at the value; none where the table is fixed
+  abbrev pub Picked : Option Split → Type 0
+  Picked r = MatchOption r (fixed block t ≡ true) (λ s. SplitAt s.row s.column s.at)
 
 -- v is an accepted part of t: it lies inside, and t keeps the placements of v
 pub record Part (block t v : List ℤ) : Type 0 where

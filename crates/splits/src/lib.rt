@@ -18,8 +18,7 @@ use words::Place;
 // No value that is open for a number is farther from 0.
 const FAR: i64 = 1000000;
 
-// A number of a row, and the value at which it is split: in those up to it, and those past it. Row 0 where no number can be split, since for each
-// of them one value alone is open.
+// A number of a row, and the value at which it is split: in those up to it, and those past it.
 #[derive(Clone, Copy)]
 pub struct Split {
     pub row: usize,
@@ -34,9 +33,10 @@ pub fn number(block: &[i64], table: &[i64], row: usize, column: usize) -> i64
 {
     let i = words::row_place(block, table, row);
     if column == 0 {
-        return words::lowest_shape(block, table, i) as i64;
+        words::lowest_shape(block, table, i) as i64
+    } else {
+        words::low_of(block, table, i, column - 1)
     }
-    words::low_of(block, table, i, column - 1)
 }
 
 // How far high is past low.
@@ -60,13 +60,11 @@ fn with_shape(shapes: u32, set: u32, s: usize, from: i64, to: i64) -> u32
     requires { (s < 32) × (shapes ≡ set_of s (is_between set from to)) }
     ensures { result ≡ set_of (suc s) (is_between set from to) }
 {
-    if !words::has_member(set, s) {
-        return shapes;
+    if words::has_member(set, s) && words::is_within(s as i64 + 1, from, to) {
+        words::with_member(shapes, s)
+    } else {
+        shapes
     }
-    if !words::is_within(s as i64 + 1, from, to) {
-        return shapes;
-    }
-    words::with_member(shapes, s)
 }
 
 // The shapes of a set whose numbers lie from `from` to `to`.
@@ -74,34 +72,32 @@ fn shapes_between(set: u32, from: i64, to: i64) -> u32
     ensures { result ≡ set_of 32 (is_between set from to) }
 {
     let mut shapes = 0;
-    let mut s = 0;
-    while s < 32 {
+    for s in 0..32 {
         shapes = with_shape(shapes, set, s, from, to);
-        s += 1;
     }
     shapes
 }
 
 // The row keeps the shapes of its set whose numbers lie from `from` to `to`.
+#[tactic(auto, using(words::proofs::Ends::row_ends))]
 fn cut_shapes(block: &[i64], table: &mut [i64], i: Place, from: i64, to: i64)
     requires { Table block.now table.old × RowPlace block.now table.old i }
     ensures { table.new ≡ cut_to block.now table.old i.number 0 from to }
 {
     let shapes = shapes_between(words::shapes_of(block, table, i), from, to);
-    let at = i.at;
-    table[at] = shapes as i64;
+    table[i.at] = shapes as i64;
 }
 
 // It keeps the coordinates of its range in dimension d that lie there.
+#[tactic(auto, using(words::proofs::Ends::row_ends))]
 fn cut_range(block: &[i64], table: &mut [i64], i: Place, d: usize, from: i64, to: i64)
     requires { RowPlace block.now table.old i × (d < axes block.now) }
     ensures { table.new ≡ cut_to block.now table.old i.number (suc d) from to }
 {
-    let low = points::larger(words::low_of(block, table, i, d), from);
-    let high = points::lesser(words::high_of(block, table, i, d), to);
-    let at = i.at;
-    table[at + 1 + 2 * d] = low;
-    table[at + 2 + 2 * d] = high;
+    let low = words::low_of(block, table, i, d).max(from);
+    let high = words::high_of(block, table, i, d).min(to);
+    table[i.at + 1 + 2 * d] = low;
+    table[i.at + 2 + 2 * d] = high;
 }
 
 // The number keeps the values from `from` to `to` that are open for it.
@@ -130,7 +126,7 @@ pub fn copy_upto(block: &[i64], table: &[i64], part: &mut [i64], s: Split)
     requires { OnNumber block.now table.now s.row s.column × (length part.old ≡ length table.now) }
     ensures { part.new ≡ upto_value block.now table.now s.row s.column s.at }
 {
-    words::copy(part, table);
+    part.copy_from_slice(table);
     keep_upto(block, part, s);
 }
 

@@ -30,43 +30,27 @@ fn spread(block: &[i64], table: &[i64], i: Place, column: usize) -> u64
 
 // ---- the first that is open
 
-// The row's first column for which several values are open, or one past its columns.
-fn open_column(block: &[i64], table: &[i64], i: Place) -> usize
+// The row's first column for which several values are open.
+fn open_column(block: &[i64], table: &[i64], i: Place) -> Option<usize>
     requires { OnRow block.now table.now i }
     ensures { OpenColumn block.now table.now i.number result }
 {
-    let k = words::axes_of(block);
-    let mut c = 0;
-    while c <= k {
-        if spread(block, table, i, c) > 0 {
-            return c;
-        }
-        c += 1;
-    }
-    c
+    let columns = words::axes_of(block) + 1;
+    (0..columns).find(|&c| spread(block, table, i, c) > 0)
 }
 
 // The first number for which several values are open, split at the least.
-pub fn first_open(block: &[i64], table: &[i64]) -> Split
+pub fn first_open(block: &[i64], table: &[i64]) -> Option<Split>
     requires { Head block.now × Table block.now table.now }
     ensures { Picked block.now table.now result }
 {
-    let n = words::rows_of(block, table);
-    let k = words::axes_of(block);
-    let mut row = 1;
-    while row <= n {
-        let column = open_column(block, table, words::row_place(block, table, row));
-        if column <= k {
+    for row in 1..=words::rows_of(block, table) {
+        if let Some(column) = open_column(block, table, words::row_place(block, table, row)) {
             let at = number(block, table, row, column);
-            return Split { row, column, at };
+            return Some(Split { row, column, at });
         }
-        row += 1;
     }
-    Split {
-        row: 0,
-        column: 0,
-        at: 0,
-    }
+    None
 }
 
 // ---- the one with the most to gain
@@ -92,57 +76,47 @@ fn gain_in_column(
     i: Place,
     column: usize,
     weight: u64,
-    so_far: Gain,
-) -> Gain
+    so_far: Option<Gain>,
+) -> Option<Gain>
     requires { OnRow block.now table.now i × (column ≤ axes block.now) × Weight weight
         × Gains block.now table.now i.number column so_far }
     ensures { Gains block.now table.now i.number (column + 1) result }
 {
     let gain = weight * spread(block, table, i, column);
-    if gain <= so_far.gain {
+    if gain <= so_far.map_or(0, |best| best.gain) {
         return so_far;
     }
     let row = i.number;
-    Gain { row, column, gain }
+    Some(Gain { row, column, gain })
 }
 
 // The greatest of the gain before and those of the row's columns.
-fn gain_in_row(block: &[i64], table: &[i64], i: Place, weight: u64, so_far: Gain) -> Gain
+fn gain_in_row(
+    block: &[i64],
+    table: &[i64],
+    i: Place,
+    weight: u64,
+    so_far: Option<Gain>,
+) -> Option<Gain>
     requires { OnRow block.now table.now i × Weight weight × Gains block.now table.now i.number 0 so_far }
     ensures { Gains block.now table.now (i.number + 1) 0 result }
 {
-    let k = words::axes_of(block);
     let mut best = so_far;
-    let mut column = 0;
-    while column <= k {
+    for column in 0..=words::axes_of(block) {
         best = gain_in_column(block, table, i, column, weight, best);
-        column += 1;
     }
     best
 }
 
 // The greatest gain, a row that has failed often weighing more.
-fn greatest_gain(block: &[i64], table: &[i64], failures: &[u32; LAYOUT_ROWS]) -> Gain
+fn greatest_gain(block: &[i64], table: &[i64], failures: &[u32; LAYOUT_ROWS]) -> Option<Gain>
     requires { Head block.now × Table block.now table.now × (rows block.now table.now ≤ layout_rows_most) }
     ensures { Gains block.now table.now (rows block.now table.now + 1) 0 result }
 {
-    let n = words::rows_of(block, table);
-    let mut best = Gain {
-        row: 0,
-        column: 0,
-        gain: 0,
-    };
-    let mut row = 1;
-    while row <= n {
-        let weight = weight_of(failures[row - 1]);
-        best = gain_in_row(
-            block,
-            table,
-            words::row_place(block, table, row),
-            weight,
-            best,
-        );
-        row += 1;
+    let mut best = None;
+    for row in 1..=words::rows_of(block, table) {
+        let i = words::row_place(block, table, row);
+        best = gain_in_row(block, table, i, weight_of(failures[row - 1]), best);
     }
     best
 }
@@ -161,20 +135,13 @@ fn split_value(block: &[i64], table: &[i64], row: usize, column: usize) -> i64
 }
 
 // The number with the greatest gain: its values reach far, and its row has failed often.
-pub fn pick(block: &[i64], table: &[i64], failures: &[u32; LAYOUT_ROWS]) -> Split
+pub fn pick(block: &[i64], table: &[i64], failures: &[u32; LAYOUT_ROWS]) -> Option<Split>
     requires { Head block.now × Table block.now table.now × (rows block.now table.now ≤ layout_rows_most) }
     ensures { Picked block.now table.now result }
 {
-    let best = greatest_gain(block, table, failures);
+    let best = greatest_gain(block, table, failures)?;
     let row = best.row;
     let column = best.column;
-    if best.gain == 0 {
-        return Split {
-            row: 0,
-            column: 0,
-            at: 0,
-        };
-    }
     let at = split_value(block, table, row, column);
-    Split { row, column, at }
+    Some(Split { row, column, at })
 }

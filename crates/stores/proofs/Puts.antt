@@ -2,13 +2,12 @@
 -- Assumes nothing.
 use mathlib.Core.Path.{◌≡◌, refl, sym, ap, ◌∙◌}
 use mathlib.Core.List.{List, [], ◌∷◌, ◌++◌}
-use Prim.Native.Nat.{ℕ, ◌+◌, ◌≤◌, ◌<◌}
+use Prim.Native.Nat.{ℕ, ◌+◌}
 use native.Mathlib.Omega.{arith}
-use native.Mathlib.Nat.{add-zero}
-use lib.ListN.{length, get_or, drop, set, length-append, length-drop}
+use lib.ListN.{length, set, length-append}
 use lib.Seq.{sets, length-sets}
 use Rattle.stores.specs.Put.{Put}
-use Rattle.stores.proofs.Stores.{sets-append, sets-next, sets-done}
+use Rattle.stores.proofs.Stores.{sets-append}
 
 module _ {A : Type 0} where
   pub put-none : (l : List A) (at : ℕ) → Put l at [] at l
@@ -56,20 +55,3 @@ module _ {A : Type 0} where
   pub left-length : {l m : List A} {at p : ℕ} {whole rest : List A} → Left l at whole m p rest → length m ≡ length l
   left-length {l} {m} {at} {p} {whole} {rest} k =
       sym (length-sets m p rest) ∙ ap length k.stored ∙ length-sets l at whole
-
-  -- ---- the items of a run v, put one by one
-  pub left-first : (l : List A) (at : ℕ) (v : List A) → Left l at v l (at + 0) (drop 0 v)
-  left-first l at v = rw add-zero (left-all l at v)
-
-  pub left-next : (d : A) {l m o : List A} {at i : ℕ} {v : List A} → Left l at v m (at + i) (drop i v) → i < length v
-      → o ≡ set m (at + i) (get_or v i d) → Left l at v o (at + (i + 1)) (drop (i + 1) v)
-  left-next d {l} {m} {o} {at} {i} {v} k h e = record {
-    past = (let u = length-drop i v in let w = length-drop (i + 1) v in omega (arith, k.past));
-    stored = ap (λ (x : List A). sets x (at + (i + 1)) (drop (i + 1) v)) e ∙ sym (sets-next d m v at i h) ∙ k.stored;
-  }
-
-  pub left-last : {l m : List A} {at i : ℕ} {v : List A} → Left l at v m (at + i) (drop i v) → length v ≤ i → i ≤ length v → Put l at v (at + i) m
-  left-last {l} {m} {at} {i} {v} k h g = record {
-    past = omega arith;
-    stored = sym (sets-done m v (at + i) i h) ∙ k.stored;
-  }

@@ -4,32 +4,15 @@ use mathlib.Core.List.{List, [], ◌∷◌, ◌++◌}
 use Prim.Native.Nat.{ℕ, suc, ◌+◌, ◌-◌, ◌≤◌, ◌<◌}
 use native.Mathlib.Omega.{arith}
 use native.Mathlib.Nat.{add-zero}
-use lib.ListN.{length, get_or, take, drop, set, length-drop, drop_of_length-le}
-use lib.Seq.{drop-cons, sets, sets-eq, set_out, set_comm, take_at, take_all}
+use lib.ListN.{length, take, drop, set, length-drop}
+use lib.Seq.{sets, sets-eq, set_comm, take_at, take_all}
 
 module _ {A : Type 0} where
-  pub set_past : (l : List A) (i : ℕ) (a : A) → length l ≤ i → l ≡ set l i a
-  set_past l i a h = sym (set_out l i a h)
-
   pub sets-append : (l : List A) (i : ℕ) (v w : List A) → sets l i (v ++ w) ≡ sets (sets l i v) (i + length v) w
   sets-append l i [] w = ap (λ (k : ℕ). sets l k w) (sym (add-zero i))
   sets-append l i (x ∷ v) w =
       sets-append (set l i x) (suc i) v w
       ∙ (let q : suc i + length v ≡ i + suc (length v) = omega arith in ap (λ (k : ℕ). sets (sets (set l i x) (suc i) v) k w) q)
-
-  -- the next of the items v, and none left; d is any default
-  pub sets-next : (d : A) (l v : List A) (at i : ℕ) → i < length v
-      → sets l (at + i) (drop i v) ≡ sets (set l (at + i) (get_or v i d)) (at + (i + 1)) (drop (i + 1) v)
-  sets-next d l v at i h =
-      let new = set l (at + i) (get_or v i d) in
-      let q : suc (at + i) ≡ at + (i + 1) = omega arith in
-      let r : suc i ≡ i + 1 = omega arith in
-      ap (sets l (at + i)) (drop-cons v i d h)
-      ∙ ap (λ (k : ℕ). sets new k (drop (suc i) v)) q
-      ∙ ap (λ (k : ℕ). sets new (at + (i + 1)) (drop k v)) r
-
-  pub sets-done : (l v : List A) (at i : ℕ) → length v ≤ i → sets l at (drop i v) ≡ l
-  sets-done l v at i h = rw (drop_of_length-le v h)
 
   -- a store before a run of stores
   set_below : (l : List A) (i : ℕ) (v : List A) (j : ℕ) (a : A) → j < i → set (sets l i v) j a ≡ sets (set l j a) i v

@@ -1,4 +1,5 @@
 pub mod Points
+pub mod Maps
 pub mod Mirror
 pub mod Rotations
 pub mod Table

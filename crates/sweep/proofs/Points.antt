@@ -37,7 +37,7 @@ pub length-nexts : (p : List ℤ) → length (nexts p) ≡ length p
 unfolding nexts
 length-nexts p = length-map p next
 
-word-map : (f : ℤ → ℤ) (p : List ℤ) (i : ℕ) → i < length p → word (map f p) i ≡ f (word p i)
+pub word-map : (f : ℤ → ℤ) (p : List ℤ) (i : ℕ) → i < length p → word (map f p) i ≡ f (word p i)
 word-map f [] i h = absurd (not-suc-le-zero h)
 word-map f (z ∷ p) zero h = refl
 word-map f (z ∷ p) (suc i) h = word-map f p i (le_of_suc-le-suc h)

@@ -28,8 +28,8 @@ rotation-out k d j f = ap (λ (t : Bool). cond t ((j + d) % k) 0) (fails (λ e.
     let u : (leb k coordinates ≡ true) × (ltb d k ≡ true) = and-true w.0 in
     f (leb-true k coordinates u.0, ltb-true d k u.1, ltb-true j k w.1)))
 
-pub rotation-below : (k d j : ℕ) → rotation k d j < coordinates
-rotation-below k d j = by (dec_le k coordinates) (dec_lt d k) (dec_lt j k)
+pub rotation_below : (k d j : ℕ) → rotation k d j < coordinates
+rotation_below k d j = by (dec_le k coordinates) (dec_lt d k) (dec_lt j k)
   where
     by : Dec (k ≤ coordinates) → Dec (d < k) → Dec (j < k) → rotation k d j < coordinates
     by (yes a) (yes h) (yes g) = omega (arith, rotation-in a h g, mod-lt (j + d) {m = k} (omega arith))

@@ -10,35 +10,16 @@ ghost use Rattle.sweep.specs.Moves.{begun, jumped_past, advance};
 
 use points::COORDINATES;
 
-// One past each word.
-fn next_words(p: [i64; COORDINATES]) -> [i64; COORDINATES]
-    requires { Near p }
-    ensures { result ≡ nexts p }
-{
-    let mut q = p;
-    let mut e = 0;
-    while e < COORDINATES {
-        q[e] = p[e] + 1;
-        e += 1;
-    }
-    q
-}
-
 // The negative of each word.
 fn mirrored(p: [i64; COORDINATES]) -> [i64; COORDINATES]
     requires { Near p }
     ensures { result ≡ mirror p }
 {
-    let mut q = p;
-    let mut e = 0;
-    while e < COORDINATES {
-        q[e] = 0 - p[e];
-        e += 1;
-    }
-    q
+    p.map(|z| -z)
 }
 
 // A point, or its mirror image: the greatest coordinate is the least of the mirrored points.
+#[tactic(auto, unfolding(crate::specs::Point::turned))]
 pub fn turned_point(p: [i64; COORDINATES], flip: bool) -> [i64; COORDINATES]
     requires { Near p }
     ensures { result ≡ turned flip p }
@@ -47,6 +28,7 @@ pub fn turned_point(p: [i64; COORDINATES], flip: bool) -> [i64; COORDINATES]
 }
 
 // The high end of the turned box from low to high; with low and high exchanged, its low end.
+#[tactic(auto, unfolding(crate::specs::Point::turned_end))]
 pub fn turned_end(
     low: [i64; COORDINATES],
     high: [i64; COORDINATES],
@@ -80,7 +62,8 @@ pub fn rotated(k: usize, d: usize, j: usize) -> usize
     }
 }
 
-// A candidate point and a jump point; live is false once no candidate is left.
+// A candidate point and a jump point; live is false once no candidate is left. The sweep is a struct by value by document 01, and the theorem
+// (specs/Theorem) speaks of its `live`.
 #[derive(Clone, Copy)]
 pub struct Sweep {
     pub candidate: [i64; COORDINATES],
@@ -94,10 +77,9 @@ impl Sweep {
         requires { Near high }
         ensures { result ≡ begun low high }
     {
-        let jump = next_words(high);
         Sweep {
             candidate: low,
-            jump,
+            jump: high.map(|z| z + 1),
             live: true,
         }
     }
@@ -107,16 +89,15 @@ impl Sweep {
         requires { Near last }
         ensures { result ≡ jumped_past self last }
     {
-        let mut e = 0;
-        while e < COORDINATES {
-            self.jump[e] = points::lesser(self.jump[e], last[e] + 1);
-            e += 1;
+        for e in 0..COORDINATES {
+            self.jump[e] = self.jump[e].min(last[e] + 1);
         }
         self
     }
 
     // The next candidate, from the last position of the rotation down: the jump point's word where it lies in the range, else the
     // position starts again. Once no position is left the sweep is live no more.
+    #[tactic(auto, using(crate::proofs::Rotations::rotation_below))]
     pub fn advanced(
         mut self,
         k: usize,
@@ -127,9 +108,7 @@ impl Sweep {
         requires { Near high }
         ensures { result ≡ advance (rotation k d) low high k self }
     {
-        let mut j = k;
-        while 0 < j {
-            j -= 1;
+        for j in (0..k).rev() {
             let i = rotated(k, d, j);
             let up = self.jump[i];
             let end = high[i];

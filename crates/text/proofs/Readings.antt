@@ -1,21 +1,29 @@
 -- What reading hands back, from the words that were parsed: refused texts with zeros, an accepted one with its words. Assumes nothing.
 use mathlib.Core.Path.{◌≡◌, refl, sym, ap, ◌∙◌}
+use mathlib.Core.Logic.{◌⊎◌, ⊎_elim}
 use mathlib.Core.Bool.{true, false}
 use mathlib.Core.List.{List, [], ◌++◌}
-use mathlib.Core.Option.{Option, none, some}
+use Rattle.std.proofs.Math.Option as math
+use Rattle.std.proofs.Math.Option.{none, some}
+use Rattle.std.specs.Prelude.{Option, Some, None, is_some, unwrap_or, Result, Ok, Err}
 use Prim.Native.Nat.{ℕ, zero, suc, ◌+◌, ◌-◌, ◌≤◌, ◌<◌}
 use native.Mathlib.Omega.{arith}
 use lib.IntN.{ℤ, pos}
 use lib.ListN.{length, drop, take, replicate}
 use lib.Seq.{sets-eq}
 use Rattle.sheet.specs.Layout.{block_most, table_most}
-use Rattle.sheet.specs.Refusal.{refusal}
+use Rattle.sheet.specs.Refusal.{refusal, ground}
+use Rattle.sheet.specs.Answer.{answer}
+use Rattle.sheet.proofs.Answer.{refused}
+use Rattle.sheet.specs.declared.Refusal.{Refusal}
+use Rattle.integers.proofs.Booleans.{clash}
+use Rattle.text.specs.declared.Reading.{Reading}
 use Rattle.sheet.specs.Text.{Sheet, read_text, refusal_read, refusal_text, sheet_unless, sheet_read, padded, reading}
 use Rattle.line.specs.Answers.{zeros, placed}
 use Rattle.line.proofs.Placed.{length-zeros, length-placed, take-placed}
-use Rattle.form.specs.Parsed.{parsed_of}
+use Rattle.form.specs.Parsed.{filled, parsed_of}
 use Rattle.form.specs.declared.Parsed.{Parsed}
-use Rattle.text.specs.Answers.{reading_of, refused_by}
+use Rattle.text.specs.Answers.{reading_of}
 use Rattle.text.proofs.Long.{refusal-long, refusal-empty, text-long}
 
 -- ---- zeros past the words
@@ -42,48 +50,32 @@ placed-padded n ws h =
 
 -- ---- the two kinds of a reading
 
-refused-sheet : {g : ℕ} (o : Option Sheet) → 0 < g → sheet_unless g o ≡ record { block = []; table = [] }
-unfolding sheet_unless
-refused-sheet {g = zero} o h = absurd (omega arith)
-refused-sheet {g = suc n} o h = refl
+refused-text : (text : List ℕ) {n : ℕ} → refusal_text text ≡ suc n → Err (ground n) ≡ reading_of (reading text)
+unfolding reading_of reading answer
+refused-text text e = rw e
 
-reading-refused : (text : List ℕ) {g : ℕ} → refusal_text text ≡ g → 0 < g → refused_by (pos g) ≡ reading_of (reading text)
-unfolding reading_of refused_by reading sheet_read
-reading-refused text {g} e h =
-    rw (e, refused-sheet (read_text text) h, padded-none block_most, padded-none table_most)
-
-reading-accepted : (text : List ℕ) (w : Sheet) {b t : List ℤ} {n m : ℕ} → read_text text ≡ some w → refusal w.block w.table ≡ 0
+accepted-text : (text : List ℕ) (w : Sheet) {b t : List ℤ} {n m : ℕ} → read_text text ≡ some w → refusal w.block w.table ≡ 0
     → b ≡ padded block_most w.block → n ≡ length w.block → t ≡ padded table_most w.table → m ≡ length w.table
-    → record { refusal = pos 0; block = b; block_len = n; table = t; table_len = m } ≡ reading_of (reading text)
-unfolding reading_of reading sheet_read sheet_unless refusal_text refusal_read
-reading-accepted text w e h b n t m = rw (b, n, t, m, e, h)
+    → Ok (record { block = b; block_len = n; table = t; table_len = m }) ≡ reading_of (reading text)
+unfolding reading_of reading sheet_read sheet_unless refusal_text refusal_read answer
+accepted-text text w e h b n t m = rw (b, n, t, m, e, h)
 
 -- ---- from what was parsed
 
-not-formed : (o : Option Sheet) (p : Parsed) → p ≡ parsed_of o → p.formed ≡ false → o ≡ none
+not-formed : (o : math.Option Sheet) → None ≡ parsed_of o → o ≡ none
 unfolding parsed_of
-not-formed none p e h = refl
-not-formed (some w) p e h = let q = sym (ap (λ (x : Parsed). x.formed) e) ∙ h in let z : ◌≡◌ {A = ℕ} 0 1 = cc in absurd (omega arith)
+not-formed none e = refl
+not-formed (some w) e = let z : true ≡ false = sym (ap is_some e) in clash refl z
 
-record Formed (o : Option Sheet) (p : Parsed) : Type 0 where
+record Formed (o : math.Option Sheet) (p : Parsed) : Type 0 where
   sheet : Sheet
   is : o ≡ some sheet
-  block : p.block ≡ placed block_most sheet.block
-  block_length : p.block_len ≡ length sheet.block
-  table : p.table ≡ placed table_most sheet.table
-  table_length : p.table_len ≡ length sheet.table
+  parsed : p ≡ filled sheet
 
-formed : (o : Option Sheet) (p : Parsed) → p ≡ parsed_of o → p.formed ≡ true → Formed o p
+formed : (o : math.Option Sheet) (p : Parsed) → Some p ≡ parsed_of o → Formed o p
 unfolding parsed_of
-formed none p e h = let q = sym (ap (λ (x : Parsed). x.formed) e) ∙ h in let z : ◌≡◌ {A = ℕ} 0 1 = cc in absurd (omega arith)
-formed (some w) p e h = record {
-  sheet = w;
-  is = refl;
-  block = ap (λ (x : Parsed). x.block) e;
-  block_length = ap (λ (x : Parsed). x.block_len) e;
-  table = ap (λ (x : Parsed). x.table) e;
-  table_length = ap (λ (x : Parsed). x.table_len) e;
-}
+formed none p e = let z : true ≡ false = ap is_some e in clash refl z
+formed (some w) p e = record { sheet = w; is = refl; parsed = ap (λ (x : Option Parsed). unwrap_or x p) e }
 
 refusal-none : (text : List ℕ) → read_text text ≡ none → refusal_text text ≡ 1
 unfolding refusal_text refusal_read
@@ -94,63 +86,96 @@ unfolding refusal_text refusal_read
 refusal-some text w e = rw e
 
 -- the words of a parsed text fill its two arrays
-pub parsed-long : (o : Option Sheet) (p : Parsed) → p ≡ parsed_of o → (length p.block ≡ block_most) × (length p.table ≡ table_most)
-unfolding parsed_of
-parsed-long none p e =
-    (ap (λ (x : Parsed). length x.block) e ∙ length-zeros block_most, ap (λ (x : Parsed). length x.table) e ∙ length-zeros table_most)
-parsed-long (some w) p e =
-    (ap (λ (x : Parsed). length x.block) e ∙ length-placed block_most _, ap (λ (x : Parsed). length x.table) e ∙ length-placed table_most _)
+pub parsed-long : (o : math.Option Sheet) (p : Parsed) → Some p ≡ parsed_of o → (length p.block ≡ block_most) × (length p.table ≡ table_most)
+unfolding filled
+parsed-long o p e =
+    let f = formed o p e in
+    (ap (λ (x : Parsed). length x.block) f.parsed ∙ length-placed block_most _, ap (λ (x : Parsed). length x.table) f.parsed ∙ length-placed table_most _)
 
-module _ (text : List ℕ) (p : Parsed) (e : p ≡ parsed_of (read_text text)) where
-  pub read_none : p.formed ≡ false → refused_by (pos 1) ≡ reading_of (reading text)
-  read_none h = reading-refused text (refusal-none text (not-formed (read_text text) p e h)) (omega arith)
+-- a text that is not in the form
+pub read_none : (text : List ℕ) → None ≡ parsed_of (read_text text) → Err (ground 0) ≡ reading_of (reading text)
+read_none text e = refused-text text (refusal-none text (not-formed (read_text text) e))
 
-  module _ (h : p.formed ≡ true) where
-    words : Formed (read_text text) p
-    words = formed (read_text text) p e h
+module _ (text : List ℕ) (p : Parsed) (e : Some p ≡ parsed_of (read_text text)) where
+  words : Formed (read_text text) p
+  words = formed (read_text text) p e
 
-    refusal_is : refusal_text text ≡ refusal words.sheet.block words.sheet.table
-    refusal_is = refusal-some text words.sheet words.is
+  abbrev sheet : Sheet
+  sheet = words.sheet
 
-    pub read-long : block_most < p.block_len → refused_by (pos 3) ≡ reading_of (reading text)
-    read-long l =
-        let long : block_most < length words.sheet.block = (let k = words.block_length in omega arith) in
-        reading-refused text (refusal_is ∙ text-long text words.sheet words.is long words.sheet.table) (omega arith)
+  block_length : p.block_len ≡ length sheet.block
+  unfolding filled
+  block_length = ap (λ (x : Parsed). x.block_len) words.parsed
 
-    module _ (l : p.block_len ≤ block_most) where
-      block_back : take p.block_len p.block ≡ words.sheet.block
-      block_back = ap (take p.block_len) words.block ∙ take-placed block_most words.sheet.block words.block_length l
+  table_length : p.table_len ≡ length sheet.table
+  unfolding filled
+  table_length = ap (λ (x : Parsed). x.table_len) words.parsed
 
-      -- g is what the code's check has found
-      pub read-rows : table_most < p.table_len → {g : ℤ} → g ≡ pos (refusal (take p.block_len p.block) [])
-          → refused_by g ≡ reading_of (reading text)
-      read-rows m {g} f =
-          let block = words.sheet.block in
-          let long : table_most < length words.sheet.table = (let k = words.table_length in omega arith) in
-          ap refused_by (f ∙ ap (λ (b : List ℤ). pos (refusal b [])) block_back)
-          ∙ reading-refused text (refusal_is ∙ refusal-long block words.sheet.table long) (refusal-empty block)
+  block_is : p.block ≡ placed block_most sheet.block
+  unfolding filled
+  block_is = ap (λ (x : Parsed). x.block) words.parsed
 
-      module _ (m : p.table_len ≤ table_most) where
-        table-back : take p.table_len p.table ≡ words.sheet.table
-        table-back = ap (take p.table_len) words.table ∙ take-placed table_most words.sheet.table words.table_length m
+  table_is : p.table ≡ placed table_most sheet.table
+  unfolding filled
+  table_is = ap (λ (x : Parsed). x.table) words.parsed
 
-        abbrev found : ℕ
-        found = refusal (take p.block_len p.block) (take p.table_len p.table)
+  refusal_is : refusal_text text ≡ refusal sheet.block sheet.table
+  refusal_is = refusal-some text sheet words.is
 
-        same : refusal_text text ≡ found
-        same =
-            refusal_is
-            ∙ ap (λ (b : List ℤ). refusal b words.sheet.table) (sym block_back)
-            ∙ ap (refusal (take p.block_len p.block)) (sym table-back)
+  pub read-long : block_most < p.block_len → Err (ground 2) ≡ reading_of (reading text)
+  read-long l =
+      let long : block_most < length sheet.block = (let k = block_length in omega arith) in
+      refused-text text (refusal_is ∙ text-long text sheet words.is long sheet.table)
 
-        pub read-refused : {g : ℤ} → g ≡ pos found → 0 < found → refused_by g ≡ reading_of (reading text)
-        read-refused {g} f k = ap refused_by f ∙ reading-refused text same k
+  module _ (l : p.block_len ≤ block_most) where
+    block_back : take p.block_len p.block ≡ sheet.block
+    block_back = ap (take p.block_len) block_is ∙ take-placed block_most sheet.block block_length l
 
-        pub read-accepted : found ≡ 0
-            → record { refusal = pos 0; block = p.block; block_len = p.block_len; table = p.table; table_len = p.table_len }
-            ≡ reading_of (reading text)
-        read-accepted k =
-            let w = words.sheet in
-            reading-accepted text w words.is (sym refusal_is ∙ same ∙ k)
-            (words.block ∙ placed-padded block_most w.block (let n = words.block_length in omega arith)) words.block_length
-            (words.table ∙ placed-padded table_most w.table (let n = words.table_length in omega arith)) words.table_length
+    -- m words of the table are looked at: none of one that is too long, as an empty one is refused as it is
+    abbrev pub Shown : ℕ → Type 0
+    Shown m = ((m ≡ 0) × (table_most < p.table_len)) ⊎ ((m ≡ p.table_len) × (p.table_len ≤ table_most))
+
+    pub shown-in : {m : ℕ} → Shown m → m ≤ length p.table
+    shown-in h =
+        let k = (parsed-long (read_text text) p e).1 in
+        ⊎_elim (λ w. omega (arith, w.0)) (λ w. omega (arith, w.0, w.1)) h
+
+    checked : {m : ℕ} → Shown m → refusal_text text ≡ refusal (take p.block_len p.block) (take m p.table)
+    checked {m} h = refusal_is ∙ ⊎_elim none whole h ∙ ap (λ (b : List ℤ). refusal b (take m p.table)) (sym block_back)
+      where
+        none : (m ≡ 0) × (table_most < p.table_len) → refusal sheet.block sheet.table ≡ refusal sheet.block (take m p.table)
+        none w =
+            let long : table_most < length sheet.table = (let k = table_length in omega (arith, w.1)) in
+            refusal-long sheet.block sheet.table long ∙ ap (λ (n : ℕ). refusal sheet.block (take n p.table)) (sym w.0)
+
+        whole : (m ≡ p.table_len) × (p.table_len ≤ table_most) → refusal sheet.block sheet.table ≡ refusal sheet.block (take m p.table)
+        whole w =
+            let back = ap (take p.table_len) table_is ∙ take-placed table_most sheet.table table_length w.1 in
+            ap (refusal sheet.block) (sym back) ∙ ap (λ (n : ℕ). refusal sheet.block (take n p.table)) (sym w.0)
+
+    -- what the check of these words answers
+    pub read-refused : {m : ℕ} → Shown m → {q : Result (Unit {0}) Refusal} {z : Result Reading Refusal} {r : Refusal}
+        → q ≡ answer (refusal (take p.block_len p.block) (take m p.table)) (tt {0}) → q ≡ Err r → z ≡ Err r → z ≡ reading_of (reading text)
+    unfolding reading_of reading
+    read-refused h a o f = refused (refusal_text text) _ _ (a ∙ ap (λ (g : ℕ). answer g (tt {0})) (sym (checked h))) o f
+
+    pub read-accepted : {m : ℕ} → Shown m → refusal (take p.block_len p.block) (take m p.table) ≡ 0
+        → Ok (record { block = p.block; block_len = p.block_len; table = p.table; table_len = m }) ≡ reading_of (reading text)
+    read-accepted {m} h k = ⊎_elim none whole h
+      where
+        sheet-accepted : refusal sheet.block sheet.table ≡ 0
+        sheet-accepted = sym refusal_is ∙ checked h ∙ k
+
+        none : (m ≡ 0) × (table_most < p.table_len)
+            → Ok (record { block = p.block; block_len = p.block_len; table = p.table; table_len = m }) ≡ reading_of (reading text)
+        none w =
+            let long : table_most < length sheet.table = (let k = table_length in omega (arith, w.1)) in
+            let l = refusal-empty sheet.block in
+            absurd (omega (arith, l, sym (refusal-long sheet.block sheet.table long) ∙ sheet-accepted))
+
+        whole : (m ≡ p.table_len) × (p.table_len ≤ table_most)
+            → Ok (record { block = p.block; block_len = p.block_len; table = p.table; table_len = m }) ≡ reading_of (reading text)
+        whole w =
+            accepted-text text sheet words.is sheet-accepted
+            (block_is ∙ placed-padded block_most sheet.block (let n = block_length in omega arith)) block_length
+            (table_is ∙ placed-padded table_most sheet.table (let n = table_length in omega (arith, w.1))) (w.0 ∙ table_length)

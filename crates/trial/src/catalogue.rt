@@ -1,7 +1,6 @@
 // Whether a fixed placement is good: room rules by document 01, non-overlap by the catalogue (document 003), with document 02's clearances.
 // It shares no code with the kernel, and what document 01 says of forbidden points is not used.
 use super::brute::last_shape;
-use super::numbers::sum;
 use super::{brute, reading};
 
 // Whether in dimension d box b of row i starts at or past the end of box c of row j plus the rule's clearance.
@@ -15,34 +14,13 @@ fn is_past(
     c: usize,
     d: usize,
 ) -> bool {
-    let start = sum(
-        reading::low(block, table, i, d),
-        reading::offset(block, b, d),
-    );
-    let other = sum(
-        reading::low(block, table, j, d),
-        reading::offset(block, c, d),
-    );
-    let end = sum(other, reading::size(block, c, d));
-    start >= sum(end, reading::clearance(block, r, d))
+    let start = reading::low(block, table, i, d).saturating_add(reading::offset(block, b, d));
+    let other = reading::low(block, table, j, d).saturating_add(reading::offset(block, c, d));
+    let end = other.saturating_add(reading::size(block, c, d));
+    start >= end.saturating_add(reading::clearance(block, r, d))
 }
 
-// Whether dimension d is named and parts the two boxes.
-fn parts(
-    block: &[i64],
-    table: &[i64],
-    r: usize,
-    i: usize,
-    b: usize,
-    j: usize,
-    c: usize,
-    d: usize,
-) -> bool {
-    reading::names_dim(block, r, d)
-        && (is_past(block, table, r, i, b, j, c, d) || is_past(block, table, r, j, c, i, b, d))
-}
-
-// Whether some dimension parts the two boxes.
+// Whether some dimension is named and parts the two boxes.
 fn boxes_apart(
     block: &[i64],
     table: &[i64],
@@ -52,41 +30,27 @@ fn boxes_apart(
     j: usize,
     c: usize,
 ) -> bool {
-    let k = reading::dims(block);
-    let mut d = 0;
-    while d < k && !parts(block, table, r, i, b, j, c, d) {
-        d = d + 1;
-    }
-    d < k
+    (0..reading::dims(block)).any(|d| {
+        reading::names_dim(block, r, d)
+            && (is_past(block, table, r, i, b, j, c, d) || is_past(block, table, r, j, c, i, b, d))
+    })
 }
 
 fn box_apart(block: &[i64], table: &[i64], r: usize, i: usize, b: usize, j: usize) -> bool {
     let s = last_shape(reading::shape_set(block, table, j));
-    let n = reading::boxes(block);
-    let mut c = 0;
-    while c < n && (reading::is_other(block, c, s) || boxes_apart(block, table, r, i, b, j, c)) {
-        c = c + 1;
-    }
-    c == n
+    (0..reading::boxes(block)).all(|c| reading::is_other(block, c, s)
+        || boxes_apart(block, table, r, i, b, j, c))
 }
 
 fn rows_apart(block: &[i64], table: &[i64], r: usize, i: usize, j: usize) -> bool {
     let s = last_shape(reading::shape_set(block, table, i));
-    let n = reading::boxes(block);
-    let mut b = 0;
-    while b < n && (reading::is_other(block, b, s) || box_apart(block, table, r, i, b, j)) {
-        b = b + 1;
-    }
-    b == n
+    (0..reading::boxes(block)).all(|b| reading::is_other(block, b, s)
+        || box_apart(block, table, r, i, b, j))
 }
 
 // Whether row i overlaps no row before it.
 fn row_apart(block: &[i64], table: &[i64], r: usize, i: usize) -> bool {
-    let mut j = 0;
-    while j < i && (!reading::names_row(block, r, j) || rows_apart(block, table, r, i, j)) {
-        j = j + 1;
-    }
-    j == i
+    (0..i).all(|j| !reading::names_row(block, r, j) || rows_apart(block, table, r, i, j))
 }
 
 fn row_meets(block: &[i64], table: &[i64], r: usize, i: usize) -> bool {
@@ -101,19 +65,9 @@ fn row_meets(block: &[i64], table: &[i64], r: usize, i: usize) -> bool {
 }
 
 fn rule_holds(block: &[i64], table: &[i64], r: usize) -> bool {
-    let n = reading::rows(block, table);
-    let mut i = 0;
-    while i < n && row_meets(block, table, r, i) {
-        i = i + 1;
-    }
-    i == n
+    (0..reading::rows(block, table)).all(|i| row_meets(block, table, r, i))
 }
 
 pub(crate) fn is_good(block: &[i64], table: &[i64]) -> bool {
-    let n = reading::rules(block);
-    let mut r = 0;
-    while r < n && rule_holds(block, table, r) {
-        r = r + 1;
-    }
-    r == n
+    (0..reading::rules(block)).all(|r| rule_holds(block, table, r))
 }

@@ -1,6 +1,7 @@
 // Where the words of a sheet stand (document 01, "The block and the table"), read without the kernel's code. Boxes, rules, rows,
-// dimensions and shapes are counted from 0 here; a word past the end reads as 0.
-use super::numbers::{at, count_of, has, place, plus, put, word_of};
+// dimensions and shapes are counted from 0 here; a word past the end reads as 0. Each function is a line that reads what its name says; one
+// function over the place of the word would leave the name to its callers.
+use super::numbers::{at, count_of, has, place, word_of};
 
 // ---- places
 
@@ -18,7 +19,16 @@ pub(crate) fn rule_place(k: usize, boxes: usize, r: usize) -> usize {
 }
 
 pub(crate) fn row_place(k: usize, i: usize) -> usize {
-    place(0, i, row_len(k))
+    i.saturating_mul(row_len(k))
+}
+
+// Where the ends of a row's range stand in its record.
+pub(crate) fn low_place(d: usize) -> usize {
+    place(1, 2, d)
+}
+
+pub(crate) fn high_place(d: usize) -> usize {
+    place(2, 2, d)
 }
 
 // ---- the block
@@ -36,7 +46,7 @@ pub(crate) fn rules(block: &[i64]) -> usize {
 }
 
 fn box_word(block: &[i64], b: usize, w: usize) -> i64 {
-    at(block, plus(box_place(dims(block), b), w))
+    at(block, box_place(dims(block), b).saturating_add(w))
 }
 
 pub(crate) fn shape(block: &[i64], b: usize) -> i64 {
@@ -49,15 +59,18 @@ pub(crate) fn is_other(block: &[i64], b: usize, s: usize) -> bool {
 }
 
 pub(crate) fn offset(block: &[i64], b: usize, d: usize) -> i64 {
-    box_word(block, b, plus(1, d))
+    box_word(block, b, place(1, 1, d))
 }
 
 pub(crate) fn size(block: &[i64], b: usize, d: usize) -> i64 {
-    box_word(block, b, plus(plus(1, dims(block)), d))
+    box_word(block, b, place(1, 1, dims(block)).saturating_add(d))
 }
 
 fn rule_word(block: &[i64], r: usize, w: usize) -> i64 {
-    at(block, plus(rule_place(dims(block), boxes(block), r), w))
+    at(
+        block,
+        rule_place(dims(block), boxes(block), r).saturating_add(w),
+    )
 }
 
 pub(crate) fn kind(block: &[i64], r: usize) -> i64 {
@@ -95,18 +108,16 @@ pub(crate) fn room_high(block: &[i64], r: usize, d: usize) -> i64 {
 
 // ---- the table
 
-// The n from 1 to 32 of which the table's length is n(1 + 2k), or 0.
+// The n from 1 to 32 of which the table's length is n(1 + 2k); no rows where there is none.
 pub(crate) fn rows(block: &[i64], table: &[i64]) -> usize {
     let k = dims(block);
-    let mut n = 1;
-    while n < 33 && table.len() != row_place(k, n) {
-        n = n + 1;
-    }
-    if n < 33 { n } else { 0 }
+    (1..33)
+        .find(|n| table.len() == row_place(k, *n))
+        .unwrap_or(0)
 }
 
 fn row_word(block: &[i64], table: &[i64], i: usize, w: usize) -> i64 {
-    at(table, plus(row_place(dims(block), i), w))
+    at(table, row_place(dims(block), i).saturating_add(w))
 }
 
 pub(crate) fn shape_set(block: &[i64], table: &[i64], i: usize) -> i64 {
@@ -118,46 +129,26 @@ pub(crate) fn has_shape(block: &[i64], table: &[i64], i: usize, s: usize) -> boo
 }
 
 pub(crate) fn low(block: &[i64], table: &[i64], i: usize, d: usize) -> i64 {
-    row_word(block, table, i, place(1, 2, d))
+    row_word(block, table, i, low_place(d))
 }
 
 pub(crate) fn high(block: &[i64], table: &[i64], i: usize, d: usize) -> i64 {
-    row_word(block, table, i, place(2, 2, d))
+    row_word(block, table, i, high_place(d))
 }
 
 // ---- what a request names
 
 // The number of a row or a shape.
 pub(crate) fn number(i: usize) -> i64 {
-    word_of(plus(i, 1))
+    word_of(i).saturating_add(1)
+}
+
+// The row or shape of a number from 1.
+pub(crate) fn index(number: i64) -> usize {
+    count_of(number).saturating_sub(1)
 }
 
 // ---- records
 
 // The words of a box, a rule or a row; a rule in four dimensions has this many.
 pub const RECORD: usize = 11;
-
-// Word w of a record, or 0 past its end.
-pub(crate) fn word(record: [i64; RECORD], w: usize) -> i64 {
-    if w < RECORD { record[w] } else { 0 }
-}
-
-pub(crate) fn with_word(record: [i64; RECORD], w: usize, x: i64) -> [i64; RECORD] {
-    let mut r = record;
-    if w < RECORD {
-        r[w] = x;
-    }
-    r
-}
-
-// Puts the first n words of a record where it stands, from `first` on, and says whether one of them was other.
-pub(crate) fn put_record(words: &mut [i64], first: usize, n: usize, record: [i64; RECORD]) -> bool {
-    let mut other = false;
-    for w in 0..n {
-        let i = plus(first, w);
-        let x = word(record, w);
-        other = other | (at(words, i) != x);
-        put(words, i, x);
-    }
-    other
-}

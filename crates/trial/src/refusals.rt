@@ -1,34 +1,28 @@
 // Document 01's grounds for turning a sheet away, 2 to 12, as the paper lists them, with document 02's limits of a clearance, and document
-// 02's grounds 13 to 15. It shares no code with the kernel.
+// 02's grounds 13 to 16. It shares no code with the kernel: a refusal is the document's number, which the kernel's is to agree with.
+use super::numbers::{all_of, at, count_of, word_of};
+use super::reading::index;
 use super::{brute, catalogue, numbers, reading};
 
 // ---- refusals 2 to 8: what holds where they are not raised
+
+// Raises a ground where what is asked does not hold.
+fn ask(holds: bool, ground: i64) -> Result<(), i64> {
+    if holds { Ok(()) } else { Err(ground) }
+}
 
 fn range_holds(low: i64, high: i64) -> bool {
     -1000000 <= low && low <= high && high <= 1000000
 }
 
 fn extent_holds(block: &[i64], b: usize, d: usize) -> bool {
-    numbers::is_within(reading::offset(block, b, d), -10000, 10000)
-        && numbers::is_within(reading::size(block, b, d), 1, 10000)
+    (-10000..=10000).contains(&reading::offset(block, b, d))
+        && (1..=10000).contains(&reading::size(block, b, d))
 }
 
 fn box_holds(block: &[i64], b: usize) -> bool {
-    let k = reading::dims(block);
-    let mut d = 0;
-    while d < k && extent_holds(block, b, d) {
-        d = d + 1;
-    }
-    d == k && numbers::is_within(reading::shape(block, b), 1, 32)
-}
-
-fn boxes_hold(block: &[i64]) -> bool {
-    let n = reading::boxes(block);
-    let mut b = 0;
-    while b < n && box_holds(block, b) {
-        b = b + 1;
-    }
-    b == n
+    (0..reading::dims(block)).all(|d| extent_holds(block, b, d))
+        && (1..=32).contains(&reading::shape(block, b))
 }
 
 // Whether a rule's two words of a dimension are the ends of a room, or a clearance and 0; where the dimension is not named both are 0.
@@ -41,164 +35,93 @@ fn room_holds(block: &[i64], r: usize, d: usize) -> bool {
     if reading::kind(block, r) == 2 {
         return range_holds(low, high);
     }
-    numbers::is_within(reading::clearance(block, r, d), 0, 1000) && high == 0
-}
-
-fn rooms_hold(block: &[i64], r: usize) -> bool {
-    let k = reading::dims(block);
-    let mut d = 0;
-    while d < k && room_holds(block, r, d) {
-        d = d + 1;
-    }
-    d == k
+    (0..=1000).contains(&reading::clearance(block, r, d)) && high == 0
 }
 
 // Whether a set is from 1 to 2^n − 1.
 fn is_set(set: i64, n: usize) -> bool {
-    numbers::is_within(set, 1, numbers::difference(numbers::set_of(n), 1))
+    (1..=all_of(n)).contains(&set)
 }
 
 fn rule_holds(block: &[i64], n: usize, r: usize) -> bool {
-    numbers::is_within(reading::kind(block, r), 1, 2)
-        && is_set(reading::dim_set(block, r), reading::dims(block))
+    let k = reading::dims(block);
+    (1..=2).contains(&reading::kind(block, r))
+        && is_set(reading::dim_set(block, r), k)
         && is_set(reading::row_set(block, r), n)
-        && rooms_hold(block, r)
-}
-
-fn rules_hold(block: &[i64], n: usize) -> bool {
-    let m = reading::rules(block);
-    let mut r = 0;
-    while r < m && rule_holds(block, n, r) {
-        r = r + 1;
-    }
-    r == m
+        && (0..k).all(|d| room_holds(block, r, d))
 }
 
 fn has_box(block: &[i64], s: usize) -> bool {
-    let n = reading::boxes(block);
-    let mut b = 0;
-    while b < n && reading::is_other(block, b, s) {
-        b = b + 1;
-    }
-    b < n
+    (0..reading::boxes(block)).any(|b| !reading::is_other(block, b, s))
 }
 
 // Whether a word is a set of shapes of which each has a box.
 fn shapes_hold(block: &[i64], set: i64) -> bool {
-    let mut s = 0;
-    while s < 32 && (!numbers::has(set, s) || has_box(block, s)) {
-        s = s + 1;
-    }
-    s == 32 && is_set(set, 32)
-}
-
-fn ranges_hold(block: &[i64], table: &[i64], i: usize) -> bool {
-    let k = reading::dims(block);
-    let mut d = 0;
-    while d < k
-        && range_holds(
-            reading::low(block, table, i, d),
-            reading::high(block, table, i, d),
-        )
-    {
-        d = d + 1;
-    }
-    d == k
+    is_set(set, 32) && (0..32).all(|s| !numbers::has(set, s) || has_box(block, s))
 }
 
 fn row_holds(block: &[i64], table: &[i64], i: usize) -> bool {
-    shapes_hold(block, reading::shape_set(block, table, i)) && ranges_hold(block, table, i)
+    shapes_hold(block, reading::shape_set(block, table, i))
+        && (0..reading::dims(block)).all(|d| {
+            range_holds(
+                reading::low(block, table, i, d),
+                reading::high(block, table, i, d),
+            )
+        })
 }
 
-fn rows_hold(block: &[i64], table: &[i64], n: usize) -> bool {
-    let mut i = 0;
-    while i < n && row_holds(block, table, i) {
-        i = i + 1;
-    }
-    i == n
+fn check_head(block: &[i64]) -> Result<(), i64> {
+    let k = at(block, 0);
+    ask(block.len() >= 3 && (1..=4).contains(&k), 2)?;
+    let boxes = at(block, 1);
+    let rules = at(block, 2);
+    ask((1..=128).contains(&boxes) && (0..=32).contains(&rules), 3)?;
+    let len = reading::rule_place(count_of(k), count_of(boxes), count_of(rules));
+    ask(block.len() == len, 4)
 }
 
-fn head_refusal(block: &[i64]) -> i64 {
-    if block.len() < 3 || !numbers::is_within(numbers::at(block, 0), 1, 4) {
-        return 2;
-    }
-    if !numbers::is_within(numbers::at(block, 1), 1, 128)
-        || !numbers::is_within(numbers::at(block, 2), 0, 32)
-    {
-        return 3;
-    }
-    if block.len()
-        != reading::rule_place(
-            reading::dims(block),
-            reading::boxes(block),
-            reading::rules(block),
-        )
-    {
-        return 4;
-    }
-    0
-}
-
-pub(crate) fn refusal(block: &[i64], table: &[i64]) -> i64 {
-    let g = head_refusal(block);
-    if g > 0 {
-        return g;
-    }
+pub(crate) fn check(block: &[i64], table: &[i64]) -> Result<(), i64> {
+    check_head(block)?;
     let n = reading::rows(block, table);
-    if n == 0 {
-        return 5;
-    }
-    if !boxes_hold(block) {
-        return 6;
-    }
-    if !rules_hold(block, n) {
-        return 7;
-    }
-    if !rows_hold(block, table, n) {
-        return 8;
-    }
-    0
+    ask(n > 0, 5)?;
+    ask((0..reading::boxes(block)).all(|b| box_holds(block, b)), 6)?;
+    ask(
+        (0..reading::rules(block)).all(|r| rule_holds(block, n, r)),
+        7,
+    )?;
+    ask((0..n).all(|i| row_holds(block, table, i)), 8)
 }
 
 // ---- refusals 9 to 12
 
-pub(crate) fn row_refusal(block: &[i64], table: &[i64], row: i64) -> i64 {
-    let g = refusal(block, table);
-    if g > 0 {
-        return g;
-    }
-    let n = numbers::word_of(reading::rows(block, table));
-    if numbers::is_within(row, 1, n) { 0 } else { 9 }
+pub(crate) fn check_row(block: &[i64], table: &[i64], row: i64) -> Result<(), i64> {
+    check(block, table)?;
+    let n = word_of(reading::rows(block, table));
+    ask((1..=n).contains(&row), 9)
 }
 
-// The row or shape of a number from 1.
-pub(crate) fn index(number: i64) -> usize {
-    numbers::before(numbers::count_of(number))
+pub(crate) fn check_shape(block: &[i64], table: &[i64], row: i64, shape: i64) -> Result<(), i64> {
+    check_row(block, table, row)?;
+    let is_shape = (1..=32).contains(&shape);
+    ask(
+        is_shape && reading::has_shape(block, table, index(row), index(shape)),
+        10,
+    )
 }
 
-pub(crate) fn shape_refusal(block: &[i64], table: &[i64], row: i64, shape: i64) -> i64 {
-    let g = row_refusal(block, table, row);
-    if g > 0 {
-        return g;
-    }
-    if numbers::is_within(shape, 1, 32)
-        && reading::has_shape(block, table, index(row), index(shape))
-    {
-        return 0;
-    }
-    10
+fn is_dim(block: &[i64], dim: i64) -> bool {
+    0 <= dim && dim < at(block, 0)
 }
 
-fn is_no_dim(block: &[i64], dim: i64) -> bool {
-    dim < 0 || dim >= numbers::at(block, 0)
-}
-
-pub(crate) fn dim_refusal(block: &[i64], table: &[i64], row: i64, shape: i64, dim: i64) -> i64 {
-    let g = shape_refusal(block, table, row, shape);
-    if g > 0 {
-        return g;
-    }
-    if is_no_dim(block, dim) { 11 } else { 0 }
+pub(crate) fn check_dim(
+    block: &[i64],
+    table: &[i64],
+    row: i64,
+    shape: i64,
+    dim: i64,
+) -> Result<(), i64> {
+    check_shape(block, table, row, shape)?;
+    ask(is_dim(block, dim), 11)
 }
 
 // Whether a row has one shape and one point.
@@ -207,55 +130,30 @@ fn row_is_fixed(block: &[i64], table: &[i64], i: usize) -> bool {
         && brute::points(block, table, i, 0) == 1
 }
 
-fn is_fixed(block: &[i64], table: &[i64]) -> bool {
+pub(crate) fn check_placement(block: &[i64], table: &[i64]) -> Result<(), i64> {
+    check(block, table)?;
     let n = reading::rows(block, table);
-    let mut i = 0;
-    while i < n && row_is_fixed(block, table, i) {
-        i = i + 1;
-    }
-    i == n
-}
-
-pub(crate) fn placement_refusal(block: &[i64], table: &[i64]) -> i64 {
-    let g = refusal(block, table);
-    if g > 0 {
-        return g;
-    }
-    if is_fixed(block, table) { 0 } else { 12 }
+    ask((0..n).all(|i| row_is_fixed(block, table, i)), 12)
 }
 
 // Of a sheet that is to be laid out whole.
-pub(crate) fn layout_refusal(block: &[i64], table: &[i64]) -> i64 {
-    let g = refusal(block, table);
-    if g > 0 {
-        return g;
-    }
-    if reading::rows(block, table) > 8 {
-        16
-    } else {
-        0
-    }
+pub(crate) fn check_layout(block: &[i64], table: &[i64]) -> Result<(), i64> {
+    check(block, table)?;
+    ask(reading::rows(block, table) <= 8, 16)
 }
 
 // Of two rows and a dimension.
-pub(crate) fn relation_refusal(
+pub(crate) fn check_relation(
     block: &[i64],
     table: &[i64],
     row: i64,
     other: i64,
     dim: i64,
-) -> i64 {
-    let g = numbers::greater(
-        row_refusal(block, table, row),
-        row_refusal(block, table, other),
-    );
-    if g > 0 {
-        return g;
-    }
-    if is_no_dim(block, dim) {
-        return 11;
-    }
-    placement_refusal(block, table)
+) -> Result<(), i64> {
+    check_row(block, table, row)?;
+    check_row(block, table, other)?;
+    ask(is_dim(block, dim), 11)?;
+    check_placement(block, table)
 }
 
 // ---- refusals 13 to 15
@@ -263,46 +161,28 @@ pub(crate) fn relation_refusal(
 // Whether a number is that of a rule of kind 2 that names every dimension.
 fn is_fill_rule(block: &[i64], rule: i64) -> bool {
     let r = index(rule);
-    let every = numbers::difference(numbers::set_of(reading::dims(block)), 1);
-    numbers::is_within(rule, 1, numbers::word_of(reading::rules(block)))
+    (1..=word_of(reading::rules(block))).contains(&rule)
         && reading::kind(block, r) == 2
-        && reading::dim_set(block, r) == every
+        && reading::dim_set(block, r) == all_of(reading::dims(block))
 }
 
 // A room may have this many cells; one that has more counts as one more.
 const MOST_CELLS: usize = 4096;
 
 pub(crate) fn room_cells(block: &[i64], r: usize) -> usize {
-    let k = reading::dims(block);
-    let most = numbers::plus(MOST_CELLS, 1);
-    let mut n = 1;
-    for d in 0..k {
-        let span = numbers::difference(
-            reading::room_high(block, r, d),
-            reading::room_low(block, r, d),
-        );
-        n = numbers::place(0, n, numbers::at_most(numbers::count_of(span), most));
-        n = numbers::at_most(n, most);
-    }
-    n
+    (0..reading::dims(block)).fold(1, |n: usize, d| {
+        let low = reading::room_low(block, r, d);
+        let high = reading::room_high(block, r, d);
+        n.saturating_mul(count_of(high.saturating_sub(low)))
+            .min(MOST_CELLS + 1)
+    })
 }
 
 // Of a rule's fill.
-pub(crate) fn fill_refusal(block: &[i64], table: &[i64], rule: i64) -> i64 {
-    let g = placement_refusal(block, table);
-    if g > 0 {
-        return g;
-    }
-    if !is_fill_rule(block, rule) {
-        return 13;
-    }
+pub(crate) fn check_fill(block: &[i64], table: &[i64], rule: i64) -> Result<(), i64> {
+    check_placement(block, table)?;
+    ask(is_fill_rule(block, rule), 13)?;
     let n = room_cells(block, index(rule));
-    if n == 0 || n > MOST_CELLS {
-        return 14;
-    }
-    if catalogue::is_good(block, table) {
-        0
-    } else {
-        15
-    }
+    ask((1..=MOST_CELLS).contains(&n), 14)?;
+    ask(catalogue::is_good(block, table), 15)
 }

@@ -1,11 +1,8 @@
 // The rotation of the sweep's dimensions, by the remainder: for every k, d and j from 0 to 5.
-use super::numbers::{plus, quotient, remainder};
 use super::tally::Tally;
 
-// How many values each of the three has, and how many triples there are.
+// How many values each of the three has.
 const VALUES: usize = 6;
-
-const TRIPLES: usize = VALUES * VALUES * VALUES;
 
 // The most dimensions of a sweep.
 const MOST: usize = 4;
@@ -15,21 +12,17 @@ fn expected(k: usize, d: usize, j: usize) -> usize {
     if k > MOST || d >= k || j >= k {
         return 0;
     }
-    remainder(plus(j, d), k)
-}
-
-// Triple m: its digits are j, d and k.
-fn triple(t: Tally, m: usize) -> Tally {
-    let j = remainder(m, VALUES);
-    let d = remainder(quotient(m, VALUES), VALUES);
-    let k = quotient(m, VALUES * VALUES);
-    t.with_case(sweep::rotated(k, d, j) == expected(k, d, j))
+    (j + d) % k
 }
 
 pub(crate) fn all() -> Tally {
-    let mut t = Tally::new();
-    for m in 0..TRIPLES {
-        t = triple(t, m);
+    let mut t = Tally::default();
+    for k in 0..VALUES {
+        for d in 0..VALUES {
+            for j in 0..VALUES {
+                t.count_case(sweep::rotated(k, d, j) == expected(k, d, j));
+            }
+        }
     }
     t
 }

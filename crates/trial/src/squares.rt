@@ -1,6 +1,5 @@
 // Five squares of 1,000 in a room that holds four, and in one that is long enough for three side by side (document 02, T-06). Their ranges are as
 // wide as ranges can be; what is expected was worked out by hand.
-use super::brute::NONE;
 use super::firsts;
 use super::tally::Tally;
 
@@ -35,7 +34,8 @@ fn block(length: i64) -> [i64; 22] {
 }
 
 pub(crate) fn both() -> Tally {
-    let t = Tally::new();
-    let u = firsts::kernel(t, &block(2999), &OPEN, &OPEN, NONE);
-    firsts::kernel(u, &block(3000), &OPEN, &PLACED, 0)
+    let mut t = Tally::default();
+    firsts::kernel(&mut t, &block(2999), &OPEN, &OPEN, Ok(false));
+    firsts::kernel(&mut t, &block(3000), &OPEN, &PLACED, Ok(true));
+    t
 }

@@ -1,8 +1,7 @@
 // What the trial counts.
-use super::numbers;
-use std::num::wrapping_add_u64;
+use super::findings::Finding;
 
-#[derive(Clone, Copy)]
+#[derive(Clone, Copy, Default)]
 pub struct Tally {
     pub run: u64, // sheets, positions, or rotations
     pub refused: u64, // sheets
@@ -24,107 +23,64 @@ pub struct Tally {
     pub differ: u64,
 }
 
-fn and(n: u64, more: bool) -> u64 {
-    if more { wrapping_add_u64(n, 1) } else { n }
+// Counts one more where something holds.
+fn count(n: &mut u64, holds: bool) {
+    *n = n.wrapping_add(u64::from(holds));
 }
 
 impl Tally {
-    pub(crate) fn new() -> Self {
-        Tally {
-            run: 0,
-            refused: 0,
-            large: 0,
-            settled: 0,
-            moved: 0,
-            none: 0,
-            good: 0,
-            bad: 0,
-            related: 0,
-            kinds: 0,
-            filled: 0,
-            shared: 0,
-            placed: 0,
-            unplaced: 0,
-            tiny: 0,
-            inside: 0,
-            compared: 0,
-            differ: 0,
-        }
-    }
-
-    // One comparison.
-    pub(crate) fn compared(mut self, same: bool) -> Self {
-        self.compared = and(self.compared, true);
-        self.differ = and(self.differ, !same);
-        self
+    // One comparison. Each method counts its own fields, which a shared one would take as names.
+    pub(crate) fn compare(&mut self, same: bool) {
+        count(&mut self.compared, true);
+        count(&mut self.differ, !same);
     }
 
     // A position or a rotation.
-    pub(crate) fn with_case(mut self, agrees: bool) -> Self {
-        self.run = and(self.run, true);
-        self.differ = and(self.differ, !agrees);
-        self
+    pub(crate) fn count_case(&mut self, agrees: bool) {
+        count(&mut self.run, true);
+        count(&mut self.differ, !agrees);
     }
 
-    pub(crate) fn with_sheet(mut self, refused: bool, large: bool) -> Self {
-        self.run = and(self.run, true);
-        self.refused = and(self.refused, refused);
-        self.large = and(self.large, large);
-        self
+    pub(crate) fn count_sheet(&mut self, refused: bool, large: bool) {
+        count(&mut self.run, true);
+        count(&mut self.refused, refused);
+        count(&mut self.large, large);
     }
 
-    // What settling found; `counted` where it was a sheet and not a placement. Only a settled table was moved.
-    pub(crate) fn with_settling(mut self, counted: bool, finding: i64, moved: bool) -> Self {
-        if counted {
-            self.settled = and(self.settled, finding == 0);
-            self.moved = and(self.moved, moved);
-            self.none = and(self.none, finding == -1);
-        }
-        self
+    // What settling a sheet found, and whether a word of it moved. Only a settled table was moved.
+    pub(crate) fn count_settling(&mut self, found: Finding, moved: bool) {
+        count(&mut self.settled, found == Ok(true));
+        count(&mut self.moved, moved);
+        count(&mut self.none, found == Ok(false));
     }
 
-    pub(crate) fn with_verdict(mut self, finding: i64) -> Self {
-        self.good = and(self.good, finding == 0);
-        self.bad = and(self.bad, finding == -1);
-        self
+    pub(crate) fn count_verdict(&mut self, found: Finding) {
+        count(&mut self.good, found == Ok(true));
+        count(&mut self.bad, found == Ok(false));
     }
 
-    pub(crate) fn with_relation(mut self, kind: i64) -> Self {
-        self.related = and(self.related, true);
-        self.kinds = self.kinds | kind;
-        self
+    pub(crate) fn count_relation(&mut self, set: i64) {
+        count(&mut self.related, true);
+        self.kinds |= set;
     }
 
-    pub(crate) fn with_fill(mut self, shared: bool) -> Self {
-        self.filled = and(self.filled, true);
-        self.shared = and(self.shared, shared);
-        self
+    pub(crate) fn count_fill(&mut self, shared: bool) {
+        count(&mut self.filled, true);
+        count(&mut self.shared, shared);
     }
 
-    pub(crate) fn with_first(mut self, finding: i64) -> Self {
-        self.placed = and(self.placed, finding == 0);
-        self.unplaced = and(self.unplaced, finding == -1);
-        self
+    pub(crate) fn count_first(&mut self, found: bool) {
+        count(&mut self.placed, found);
+        count(&mut self.unplaced, !found);
     }
 
-    pub(crate) fn with_tiny(mut self) -> Self {
-        self.tiny = and(self.tiny, true);
-        self
+    pub(crate) fn count_tiny(&mut self) {
+        count(&mut self.tiny, true);
     }
 
     // A good placement.
-    pub(crate) fn with_inside(mut self, is_inside: bool) -> Self {
-        self.inside = and(self.inside, is_inside);
-        self.compared(is_inside)
+    pub(crate) fn count_inside(&mut self, is_inside: bool) {
+        count(&mut self.inside, is_inside);
+        self.compare(is_inside);
     }
-}
-
-// How many relations were found.
-pub(crate) fn kinds_of(t: Tally) -> u64 {
-    let set = t.kinds;
-    let mut n = 0;
-    for m in 1..14 {
-        n = and(n, numbers::has(set, m));
-    }
-    n
 }

@@ -1,4 +1,3 @@
 pub mod Reading
 pub mod Ends
 pub mod Shapes
-pub mod Copies

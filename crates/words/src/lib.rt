@@ -50,8 +50,7 @@ pub fn count_at(words: &[i64], at: usize) -> usize
     requires { (at < length words.now) × Count (word words.now at) }
     ensures { result ≡ nat (word words.now at) }
 {
-    let w = words[at];
-    w as usize
+    words[at] as usize
 }
 
 fn word_is(words: &[i64], at: usize, n: usize) -> bool
@@ -66,28 +65,14 @@ pub fn bit_at(words: &[i64], at: usize, d: usize) -> bool
     requires { (at < length words.now) × Count (word words.now at) × (d < 32) }
     ensures { result ≡ bit (word words.now at) d }
 {
-    let set = count_at(words, at);
-    (set >> d) % 2 == 1
+    (count_at(words, at) >> d) % 2 == 1
 }
 
 pub fn set_at(words: &[i64], at: usize) -> u32
     requires { (at < length words.now) × Count (word words.now at) }
     ensures { result ≡ nat (word words.now at) }
 {
-    let w = words[at];
-    w as u32
-}
-
-// Writes one run over another of the same length.
-pub fn copy(to: &mut [i64], from: &[i64])
-    requires { length to.old ≡ length from.now }
-    ensures { to.new ≡ from.now }
-{
-    let mut at = 0;
-    while at < to.len() {
-        to[at] = from[at];
-        at += 1;
-    }
+    words[at] as u32
 }
 
 // ---- sets of numbers from 0 on
@@ -151,10 +136,9 @@ pub fn box_place(block: &[i64], b: usize) -> Place
     requires { Head block.now × (b < boxes block.now) }
     ensures { BoxPlace block.now result × (result.number ≡ b) }
 {
-    let k = dims_of(block);
     Place {
         number: b,
-        at: 3 + b * (1 + 2 * k),
+        at: 3 + b * (1 + 2 * dims_of(block)),
     }
 }
 
@@ -176,8 +160,7 @@ pub fn shape_of(block: &[i64], b: Place) -> i64
     requires { BoxPlace block.now b }
     ensures { result ≡ shape_of block.now b.number }
 {
-    let at = b.at;
-    word_at(block, at)
+    word_at(block, b.at)
 }
 
 // A box's shape, as a number.
@@ -185,25 +168,21 @@ pub fn shape_number(block: &[i64], b: Place) -> usize
     requires { BoxPlace block.now b × Count (shape_of block.now b.number) }
     ensures { result ≡ nat (shape_of block.now b.number) }
 {
-    let at = b.at;
-    count_at(block, at)
+    count_at(block, b.at)
 }
 
 pub fn offset_of(block: &[i64], b: Place, d: usize) -> i64
     requires { BoxPlace block.now b × (d < dims block.now) }
     ensures { result ≡ offset block.now b.number d }
 {
-    let at = b.at;
-    word_at(block, at + 1 + d)
+    word_at(block, b.at + 1 + d)
 }
 
 pub fn size_of(block: &[i64], b: Place, d: usize) -> i64
     requires { BoxPlace block.now b × (d < dims block.now) }
     ensures { result ≡ size block.now b.number d }
 {
-    let at = b.at;
-    let k = dims_of(block);
-    word_at(block, at + 1 + k + d)
+    word_at(block, b.at + 1 + dims_of(block) + d)
 }
 
 // ---- a rule
@@ -212,40 +191,35 @@ pub fn kind_of(block: &[i64], r: Place) -> i64
     requires { RulePlace block.now r }
     ensures { result ≡ kind block.now r.number }
 {
-    let at = r.at;
-    word_at(block, at)
+    word_at(block, r.at)
 }
 
 pub fn dim_set_of(block: &[i64], r: Place) -> i64
     requires { RulePlace block.now r }
     ensures { result ≡ dim_set block.now r.number }
 {
-    let at = r.at;
-    word_at(block, at + 1)
+    word_at(block, r.at + 1)
 }
 
 pub fn row_set_of(block: &[i64], r: Place) -> i64
     requires { RulePlace block.now r }
     ensures { result ≡ row_set block.now r.number }
 {
-    let at = r.at;
-    word_at(block, at + 2)
+    word_at(block, r.at + 2)
 }
 
 pub fn is_non_overlap(block: &[i64], r: Place) -> bool
     requires { RulePlace block.now r × Count (kind block.now r.number) }
     ensures { result ≡ is_non_overlap block.now r.number }
 {
-    let at = r.at;
-    word_is(block, at, 1)
+    word_is(block, r.at, 1)
 }
 
 pub fn is_containment(block: &[i64], r: Place) -> bool
     requires { RulePlace block.now r × Count (kind block.now r.number) }
     ensures { result ≡ is_containment block.now r.number }
 {
-    let at = r.at;
-    word_is(block, at, 2)
+    word_is(block, r.at, 2)
 }
 
 pub fn names_dim(block: &[i64], r: Place, d: usize) -> bool
@@ -253,32 +227,28 @@ pub fn names_dim(block: &[i64], r: Place, d: usize) -> bool
         × (d < dims block.now) }
     ensures { result ≡ names_dim block.now r.number d }
 {
-    let at = r.at;
-    bit_at(block, at + 1, d)
+    bit_at(block, r.at + 1, d)
 }
 
 pub fn names_row(block: &[i64], r: Place, i: usize) -> bool
     requires { RulePlace block.now r × Count (row_set block.now r.number) × UpTo 32 i }
     ensures { result ≡ names_row block.now r.number i }
 {
-    let at = r.at;
-    bit_at(block, at + 2, i - 1)
+    bit_at(block, r.at + 2, i - 1)
 }
 
 pub fn room_low(block: &[i64], r: Place, d: usize) -> i64
     requires { RulePlace block.now r × (d < dims block.now) }
     ensures { result ≡ room_low block.now r.number d }
 {
-    let at = r.at;
-    word_at(block, at + 3 + 2 * d)
+    word_at(block, r.at + 3 + 2 * d)
 }
 
 pub fn room_high(block: &[i64], r: Place, d: usize) -> i64
     requires { RulePlace block.now r × (d < dims block.now) }
     ensures { result ≡ room_high block.now r.number d }
 {
-    let at = r.at;
-    word_at(block, at + 4 + 2 * d)
+    word_at(block, r.at + 4 + 2 * d)
 }
 
 pub fn clearance_of(block: &[i64], r: Place, d: usize) -> i64
@@ -308,10 +278,9 @@ pub fn row_place(block: &[i64], table: &[i64], i: usize) -> Place
     requires { Head block.now × Rows block.now table.now × UpTo (rows block.now table.now) i }
     ensures { RowPlace block.now table.now result × (result.number ≡ i) }
 {
-    let w = row_len(block);
     Place {
         number: i,
-        at: (i - 1) * w,
+        at: (i - 1) * row_len(block),
     }
 }
 
@@ -320,8 +289,7 @@ pub fn shape_set_of(block: &[i64], table: &[i64], i: Place) -> i64
     requires { RowPlace block.now table.now i }
     ensures { result ≡ shape_set block.now table.now i.number }
 {
-    let at = i.at;
-    word_at(table, at)
+    word_at(table, i.at)
 }
 
 pub fn shapes_of(block: &[i64], table: &[i64], i: Place) -> u32
@@ -329,8 +297,7 @@ pub fn shapes_of(block: &[i64], table: &[i64], i: Place) -> u32
         × Count (shape_set block.now table.now i.number) }
     ensures { result ≡ nat (shape_set block.now table.now i.number) }
 {
-    let at = i.at;
-    set_at(table, at)
+    set_at(table, i.at)
 }
 
 pub fn has_shape(block: &[i64], table: &[i64], i: Place, s: usize) -> bool
@@ -338,8 +305,7 @@ pub fn has_shape(block: &[i64], table: &[i64], i: Place, s: usize) -> bool
         × Count (shape_set block.now table.now i.number) × UpTo 32 s }
     ensures { result ≡ has_shape block.now table.now i.number s }
 {
-    let at = i.at;
-    bit_at(table, at, s - 1)
+    bit_at(table, i.at, s - 1)
 }
 
 // Whether a row's set holds one shape.
@@ -363,8 +329,7 @@ pub fn low_of(block: &[i64], table: &[i64], i: Place, d: usize) -> i64
         × (d < axes block.now) }
     ensures { result ≡ low block.now table.now i.number d }
 {
-    let at = i.at;
-    word_at(table, at + 1 + 2 * d)
+    word_at(table, i.at + 1 + 2 * d)
 }
 
 pub fn high_of(block: &[i64], table: &[i64], i: Place, d: usize) -> i64
@@ -372,6 +337,5 @@ pub fn high_of(block: &[i64], table: &[i64], i: Place, d: usize) -> i64
         × (d < axes block.now) }
     ensures { result ≡ high block.now table.now i.number d }
 {
-    let at = i.at;
-    word_at(table, at + 2 + 2 * d)
+    word_at(table, i.at + 2 + 2 * d)
 }

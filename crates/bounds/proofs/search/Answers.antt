@@ -1,77 +1,15 @@
--- `bounds::search` meets its contract. The loop's invariant: the sweep has come there by jumps over forbidden regions, and is live. Its
--- measure is the number of points after the candidate. Assumes nothing.
-use mathlib.Core.Path.{◌≡◌, sym, ap, ◌∙◌}
-use mathlib.Core.Bool.{true}
-use mathlib.Core.List.{List}
-use Prim.Native.Nat.{ℕ, ◌<◌}
+-- `bounds::search` meets its contract: a candidate that nothing forbids is foremost, and a region is jumped over. Assumes nothing.
+use mathlib.Core.Path.{◌≡◌, sym}
 use borrow.Author.Rules.{rules}
-use borrow.Author.Tests.{not-true, not-false}
-use lib.IntN.{ℤ}
 use Rattle.sheet.specs.Layout.{axes}
-use Rattle.points.proofs.Areas.{in_small}
-use Rattle.sweep.specs.declared.Sweep.{Sweep}
-use Rattle.sweep.specs.Point.{turned_end}
 use Rattle.sweep.specs.Rotation.{rotation}
 use Rattle.sweep.specs.Moves.{advance, jumped_past}
-use Rattle.bounds.proofs.Swept.{Swept, points_left, Task, Encounter, task-end-near, near-low, near-high, near_last}
+use Rattle.points.proofs.Areas.{in_small}
+use Rattle.bounds.proofs.Swept.{task-of, Encounter, task-end-near, near-low, near-high, near_last}
 use Rattle.bounds.proofs.Swept.{swept-start, swept-near, swept-in, swept-found, swept-on, swept-falls, swept_none}
-use Rattle.bounds.proofs.search.Lts as lts
-use Rattle.bounds.proofs.search.Reads as reads
-use Rattle.bounds.proofs.search.Tie as tie
 use Rattle.bounds.proofs.search.Goals as goal
 
-abbrev After-turned_point-p : Type 0
-After-turned_point-p = lts.After-turned_point tie.the-claims reads.Pre reads.Post goal.the-invariant-loop-nearby goal.the-decreases-loop-nearby
-
-abbrev At-loop-nearby : Type 0
-At-loop-nearby = lts.At-loop tie.the-claims reads.Pre reads.Post goal.the-invariant-loop-nearby goal.the-decreases-loop-nearby
-
-abbrev After-region_at-x : Type 0
-After-region_at-x = lts.After-region_at tie.the-claims reads.Pre reads.Post goal.the-invariant-loop-nearby goal.the-decreases-loop-nearby
-
-abbrev After-advanced-w : Type 0
-After-advanced-w = lts.After-advanced tie.the-claims reads.Pre reads.Post goal.the-invariant-loop-nearby goal.the-decreases-loop-nearby
-
 -- ---- before the loop: the two ends of the turned area
-module _ (c : goal.After-turned_end-end) where
-  abbrev entry : goal.Start
-  entry = c.before.before.before.before.before
-
-  abbrev block : List ℤ
-  block = c.args.block.now
-
-  abbrev rows : List ℤ
-  rows = c.args.table.now
-
-  abbrev row : ℕ
-  row = c.args.nearby.i.number
-
-  abbrev shape : ℕ
-  shape = c.args.nearby.s
-
-  abbrev first : List ℤ
-  first = c.turned_end-first.result
-
-  abbrev end : List ℤ
-  end = c.turned_end-end.result
-
-  task : Task block entry.args.d entry.args.flip entry.args.area first end
-  task = record {
-    few = entry.requires.subject.accepted.head.few_axes;
-    below = entry.requires.below;
-    small = entry.requires.small;
-    filled = entry.requires.filled;
-    turns = record { start = c.turned_end-first.ensures; end = c.turned_end-end.ensures };
-    first_long = search rules;
-    end_long = search rules;
-  }
-
-  abbrev k : ℕ
-  k = c.axes_of-k.result
-
-  k-is : k ≡ axes block
-  k-is = c.axes_of-k.ensures
-
 pub axes_of-k-requires : goal.axes_of-k-requires
 axes_of-k-requires c = c.requires.subject.accepted.head
 
@@ -82,124 +20,82 @@ pub turned_end-end-requires : goal.turned_end-end-requires
 turned_end-end-requires c = near-low c.requires.small
 
 pub new-w-requires : goal.new-w-requires
-new-w-requires c = task-end-near (task c)
+new-w-requires c = task-end-near (task-of c.requires c.turned_end-first.ensures c.turned_end-end.ensures (search rules) (search rules))
 
-pub loop-nearby-init : goal.loop-nearby-init
-loop-nearby-init c =
-    let b = c.before in (
-      swept-start (task b) (rows b) (row b) (shape b) c.new-w.ensures,
-      ap (λ (w : Sweep). w.live) c.new-w.ensures,
-      (entry b).requires.listed,
-    )
-
--- ---- in the loop: the point that the candidate stands for
-module _ (c : After-turned_point-p) where
-  abbrev loop : At-loop-nearby
-  loop = c.before.before
-
-  abbrev ends : goal.After-turned_end-end
-  ends = c.before.before.before.before
-
-pub turned_point-p-requires : goal.turned_point-p-requires
-turned_point-p-requires c =
-    let b = c.before.before.before in
-    swept-near (task b) (rows b) (row b) (shape b) c.loop-nearby.invariant.0 c.loop-nearby.invariant.1
-
-pub region_at-x-requires : goal.region_at-x-requires
-region_at-x-requires c =
-    let p = c.before in
-    let b = ends p in
-    let e = (entry b).requires in
-    let w = e.subject in
-    let h = swept-in (task b) (rows b) (row b) (shape b) (loop p).loop-nearby.invariant.0 p.turned_point-p.ensures (loop p).loop-nearby.invariant.1 in
+pub loop-w-init : goal.loop-w-init
+loop-w-init c =
+    let task = task-of c.requires c.turned_end-first.ensures c.turned_end-end.ensures (search rules) (search rules) in
     record {
-      at_point = record { accepted = w.accepted; table = w.table; outline = w.outline; own = w.shape; near = in_small _ _ e.small h };
-      row = w.row;
-      inside = e.inside p.turned_point-p.result h;
-      listed = (loop p).loop-nearby.invariant.2;
+      task = task;
+      swept = swept-start task c.args.table.now c.args.nearby.i.number c.args.nearby.s c.new-w.ensures;
+      listed = c.requires.listed;
     }
 
-pub returns-then-not-hit : goal.returns-then-not-hit
-returns-then-not-hit c =
-    let p = c.before.before.before in
-    let b = ends p in (
-      swept-found (task b) (rows b) (row b) (shape b) (loop p).loop-nearby.invariant.0 p.turned_point-p.ensures (loop p).loop-nearby.invariant.1
-          (sym c.region_at-x.ensures.0.hit ∙ not-true _ c.if-not-hit.true-raw),
-      c.region_at-x.ensures.1,
-    )
+-- ---- in the loop: the point that the candidate stands for
+pub turned_point-p-requires : goal.turned_point-p-requires
+turned_point-p-requires c =
+    swept-near c.loop-w.invariant.task c.args.table.now c.args.nearby.i.number c.args.nearby.s c.loop-w.invariant.swept c.loop-w-test.true
+
+pub region_at-requires : goal.region_at-requires
+region_at-requires c =
+    let w = c.requires.subject in
+    let h = swept-in c.loop-w.invariant.task c.args.table.now c.args.nearby.i.number c.args.nearby.s c.loop-w.invariant.swept
+    c.turned_point-p.ensures c.loop-w-test.true in
+    record {
+      at_point = record { accepted = w.accepted; table = w.table; outline = w.outline; own = w.shape; near = in_small _ _ c.requires.small h };
+      row = w.row;
+      inside = c.requires.inside c.turned_point-p.result h;
+      listed = c.loop-w.invariant.listed;
+    }
+
+pub returns-in_default : goal.returns-in_default
+returns-in_default c = (
+  swept-found c.loop-w.invariant.task c.args.table.now c.args.nearby.i.number c.args.nearby.s c.loop-w.invariant.swept
+      c.turned_point-p.ensures c.loop-w-test.true (sym c.in_default.ensures.0.hit),
+  c.in_default.ensures.1,
+)
 
 -- ---- a region around the point, all of which is forbidden
-module _ (c : goal.After-turned_end-last) where
-  abbrev met : After-region_at-x
-  met = c.before.before.before.before.before
-
-  hit : met.region_at-x.result.hit ≡ true
-  hit = not-false _ c.if-not-hit.false-raw
-
-  last-ends : c.turned_end-last.result
-      ≡ turned_end (entry (ends met.before.before)).args.flip met.region_at-x.result.area.low met.region_at-x.result.area.high
-  last-ends = c.turned_end-last.ensures
-
 pub turned_end-last-requires : goal.turned_end-last-requires
-turned_end-last-requires c = near-low c.region_at-x.ensures.0.small
+turned_end-last-requires c = near-low c.in-Some.ensures.0.small
 
 pub jumped-w-requires : goal.jumped-w-requires
-jumped-w-requires c =
-    let x = met c in
-    near_last (entry (ends x.before.before)).args.flip x.region_at-x.result.area x.region_at-x.ensures.0.small (last-ends c)
+jumped-w-requires c = near_last c.args.flip c.in-Some.bad c.in-Some.ensures.0.small c.turned_end-last.ensures
 
 pub advanced-w-requires : goal.advanced-w-requires
-advanced-w-requires c = task-end-near (task (ends (met c.before).before.before))
+advanced-w-requires c = task-end-near c.loop-w.invariant.task
 
 -- ---- the sweep after its jump over the region
-module _ (c : After-advanced-w) where
-  abbrev region : goal.After-turned_end-last
-  region = c.before.before
-
-  abbrev point : After-turned_point-p
-  point = c.before.before.before.before.before.before.before.before.before
-
-  abbrev b : goal.After-turned_end-end
-  b = c.before.before.before.before.before.before.before.before.before.before.before.before.before
-
-  abbrev w : Sweep
-  w = c.loop-nearby.w
-
-  moves : c.advanced-w.result
-      ≡ advance (rotation (axes (block b)) (entry b).args.d) (first b) (end b) (axes (block b)) (jumped_past w region.turned_end-last.result)
-  moves =
-      c.advanced-w.ensures
-      ∙ ap (advance (rotation (k b) (entry b).args.d) (first b) (end b) (k b)) c.jumped-w.ensures
-      ∙ ap (λ (n : ℕ). advance (rotation n (entry b).args.d) (first b) (end b) n (jumped_past w region.turned_end-last.result)) (k-is b)
-
-  encounter : Encounter (block b) (rows b) (row b) (shape b) (entry b).args.d (entry b).args.flip (first b) (end b) w
-      point.turned_point-p.result (met region).region_at-x.result.area region.turned_end-last.result
+module _ (c : goal.After-advanced-w) where
+  encounter : Encounter c.args.block.now c.args.table.now c.args.nearby.i.number c.args.nearby.s c.args.d c.args.flip
+      c.turned_end-first.result c.turned_end-end.result c.loop-w.w c.turned_point-p.result c.in-Some.bad c.turned_end-last.result
   encounter = record {
-    swept = (loop point).loop-nearby.invariant.0;
-    live = (loop point).loop-nearby.invariant.1;
-    point = point.turned_point-p.ensures;
-    around = (met region).region_at-x.ensures.0.around (hit region);
-    only = (met region).region_at-x.ensures.0.only (hit region);
-    ends = last-ends region;
+    swept = c.loop-w.invariant.swept;
+    live = c.loop-w-test.true;
+    point = c.turned_point-p.ensures;
+    around = c.in-Some.ensures.0.around;
+    only = c.in-Some.ensures.0.only;
+    ends = c.turned_end-last.ensures;
     long = search rules;
   }
 
-  next : Swept (block b) (rows b) (row b) (shape b) (entry b).args.d (entry b).args.flip (first b) (end b) c.advanced-w.result
-  next = swept-on (task b) (rows b) (row b) (shape b) encounter moves
+  moves : c.advanced-w.result ≡ advance (rotation (axes c.args.block.now) c.args.d) c.turned_end-first.result c.turned_end-end.result
+      (axes c.args.block.now) (jumped_past c.loop-w.w c.turned_end-last.result)
+  moves = rw (c.jumped-w.ensures, c.axes_of-k.ensures) at c.advanced-w.ensures
 
-  falls : c.advanced-w.result.live ≡ true
-      → points_left (block b) (entry b).args.d (first b) (end b) c.advanced-w.result < points_left (block b) (entry b).args.d (first b) (end b) w
-  falls = swept-falls (task b) (rows b) (row b) (shape b) encounter moves
+pub loop-w-smaller : goal.loop-w-smaller
+loop-w-smaller c =
+    swept-falls c.loop-w.invariant.task c.args.table.now c.args.nearby.i.number c.args.nearby.s (encounter c) (moves c)
 
-pub returns-then-not-live : goal.returns-then-not-live
-returns-then-not-live c =
-    let a = c.before in (
-      swept_none (task (b a)) (rows (b a)) (row (b a)) (shape (b a)) (next a) (not-true _ c.if-not-live.true-raw) (point a).turned_point-p.result,
-      (met (region a)).region_at-x.ensures.1,
-    )
+pub loop-w-preserved : goal.loop-w-preserved
+loop-w-preserved c = record {
+  task = c.loop-w.invariant.task;
+  swept = swept-on c.loop-w.invariant.task c.args.table.now c.args.nearby.i.number c.args.nearby.s (encounter c) (moves c);
+  listed = c.in-Some.ensures.1;
+}
 
-pub loop-nearby-smaller : goal.loop-nearby-smaller
-loop-nearby-smaller c = falls c.before (not-false _ c.if-not-live.false-raw)
-
-pub loop-nearby-preserved : goal.loop-nearby-preserved
-loop-nearby-preserved c = (next c.before, not-false _ c.if-not-live.false-raw, (met (region c.before)).region_at-x.ensures.1)
+pub returns : goal.returns
+returns c = (
+  swept_none c.loop-w.invariant.task c.args.table.now c.args.nearby.i.number c.args.nearby.s c.loop-w.invariant.swept c.loop-w-test.false,
+  c.loop-w.invariant.listed,
+)

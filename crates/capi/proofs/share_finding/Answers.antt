@@ -1,20 +1,16 @@
 -- `capi::share_finding` meets its contract, by the answer. Assumes nothing.
+use mir.Facts.{to_z_pos}
 use mir.Syntax.{w64}
-use mir.Val.{SFits}
-use mir.Facts.{to_z-of_z}
+use Rattle.words.proofs.Reading.{read_back}
 use Rattle.capi.specs.Findings.{share_finding}
-use borrow.Author.Rules.{rules}
 use Rattle.capi.proofs.share_finding.Goals as goal
 
-pub returns-in-Of : goal.returns-in-Of
+pub returns-in-Ok : goal.returns-in-Ok
 unfolding share_finding
-returns-in-Of c =
-    let f : SFits w64 c.in-Of.c = search rules in
-    let g : SFits w64 c.in-Of.p = search rules in
-    rw (c.in-Of.is, to_z-of_z f, to_z-of_z g)
+returns-in-Ok c =
+    let small = rw c.in-Ok.is at c.requires in
+    rw (c.in-Ok.is, to_z_pos w64 small.0, to_z_pos w64 small.1)
 
-pub returns-in-Refused : goal.returns-in-Refused
+pub returns-in-Err : goal.returns-in-Err
 unfolding share_finding
-returns-in-Refused c =
-    let f : SFits w64 c.in-Refused.g = search rules in
-    rw (c.in-Refused.is, to_z-of_z f)
+returns-in-Err c = rw (c.in-Err.is, read_back c.from.ensures c.from.type_inv)

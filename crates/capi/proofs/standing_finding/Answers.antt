@@ -1,20 +1,12 @@
 -- `capi::standing_finding` meets its contract, by the answer. Assumes nothing.
-use mir.Syntax.{w64}
-use mir.Val.{SFits}
-use mir.Facts.{to_z-of_z}
 use Rattle.words.proofs.Reading.{read_back}
 use Rattle.capi.specs.Findings.{standing_finding}
-use borrow.Author.Rules.{rules}
 use Rattle.capi.proofs.standing_finding.Goals as goal
 
-pub returns-in-Bears : goal.returns-in-Bears
+pub returns-in-Ok : goal.returns-in-Ok
 unfolding standing_finding
-returns-in-Bears c =
-    let n = c.relation_number in
-    rw (c.in-Bears.is, read_back n.ensures n.type_inv)
+returns-in-Ok c = rw (c.in-Ok.is, read_back c.from.ensures c.from.type_inv)
 
-pub returns-in-Refused : goal.returns-in-Refused
+pub returns-in-Err : goal.returns-in-Err
 unfolding standing_finding
-returns-in-Refused c =
-    let f : SFits w64 c.in-Refused.g = search rules in
-    rw (c.in-Refused.is, to_z-of_z f)
+returns-in-Err c = rw (c.in-Err.is, read_back c.from-in-Err.ensures c.from-in-Err.type_inv)

@@ -2,10 +2,10 @@
 use mathlib.Core.Path.{ap, ◌∙◌}
 use mir.Facts.{to_z-of_z}
 use Rattle.words.proofs.Reading.{read_back}
-use Rattle.capi.specs.Findings.{narrow_finding}
+use Rattle.capi.specs.Findings.{finding}
 use Rattle.capi.proofs.zk_narrow.Goals as goal
 
 pub returns : goal.returns
 returns c =
     let e = simp (to_z-of_z c.ranges.row) at c.narrow.ensures in
-    (read_back (c.narrow_finding.ensures ∙ ap narrow_finding e.0) c.narrow_finding.type_inv, e.1)
+    (read_back (c.finding.ensures ∙ ap finding e.0) c.finding.type_inv, e.1)

@@ -2,7 +2,7 @@
 use mathlib.Core.Path.{ap, ◌∙◌}
 use mir.Facts.{to_z-of_z}
 use Rattle.words.proofs.Reading.{read_back}
-use Rattle.capi.specs.Findings.{point_finding}
+use Rattle.capi.specs.Findings.{finding}
 use Rattle.capi.proofs.zk_point_allowed.Goals as goal
 
 pub returns : goal.returns
@@ -10,4 +10,4 @@ returns c =
     let f = c.ranges in
     let e = simp (to_z-of_z f.row, to_z-of_z f.shape, to_z-of_z f.p0, to_z-of_z f.p1, to_z-of_z f.p2, to_z-of_z f.p3)
     at c.point_allowed.ensures in
-    read_back (c.point_finding.ensures ∙ ap point_finding e) c.point_finding.type_inv
+    read_back (c.finding.ensures ∙ ap finding e) c.finding.type_inv

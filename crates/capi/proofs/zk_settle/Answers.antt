@@ -1,10 +1,10 @@
 -- `capi::zk_settle` meets its contract: the finding of what `settle::settle` answers, and the table as it leaves it. Assumes nothing.
 use mathlib.Core.Path.{ap, ◌∙◌}
 use Rattle.words.proofs.Reading.{read_back}
-use Rattle.capi.specs.Findings.{settle_finding}
+use Rattle.capi.specs.Findings.{finding}
 use Rattle.capi.proofs.zk_settle.Goals as goal
 
 pub returns : goal.returns
 returns c =
     let e = c.settle.ensures in
-    (read_back (c.settle_finding.ensures ∙ ap settle_finding e.0) c.settle_finding.type_inv, e.1)
+    (read_back (c.finding.ensures ∙ ap finding e.0) c.finding.type_inv, e.1)

@@ -14,13 +14,10 @@ is_non_overlap_of-requires c =
     let w = c.requires in
     (w.0.accepted, c.rule_place-rule.ensures.0, row-bit w.1)
 
-pub none-requires : goal.none-requires
-none-requires c = tt
-
 pub returns-then-not-is_non_overlap_of : goal.returns-then-not-is_non_overlap_of
 unfolding rule_forbids
 returns-then-not-is_non_overlap_of c =
-    missed (rw (← c.rule_place-rule.ensures.1, sym c.is_non_overlap_of.ensures ∙ not-true c.if-not-is_non_overlap_of.true-raw)) c.none.ensures
+    missed (rw (← c.rule_place-rule.ensures.1, sym c.is_non_overlap_of.ensures ∙ not-true c.if-not-is_non_overlap_of.true-raw))
 
 pub rows_region-requires : goal.rows_region-requires
 rows_region-requires c = (c.requires.0, c.rule_place-rule.ensures.0)

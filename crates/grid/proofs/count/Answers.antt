@@ -1,38 +1,31 @@
--- `grid::count` meets its contract: c is how many of the cells before m are marked. Assumes nothing.
+-- `grid::count` meets its contract: c is how many of the cells so far are marked. Assumes nothing.
 use mathlib.Core.Path.{◌≡◌, sym, ap, ◌∙◌}
+use mathlib.Core.Bool.{false}
+use Prim.Native.Nat.{◌<◌}
 use native.Mathlib.Omega.{arith}
+use lib.Seq.{get_or-take, length-take-le}
 use Rattle.integers.proofs.Digits.{sum-zero}
 use Rattle.grid.proofs.Marks.{marked, count_yes, count_no}
 use Rattle.grid.proofs.count.Goals as goal
-use Rattle.grid.proofs.count.Goals.{then-marks-m, else-marks-m}
+use Rattle.grid.proofs.count.Goals.{then-mark, else-mark}
 
-pub loop-m-init : goal.loop-m-init
-loop-m-init c = (omega arith, omega arith, sym (sum-zero _))
+pub loop-mark-init : goal.loop-mark-init
+loop-mark-init c = (omega arith, sym (sum-zero _))
 
-pub bounds-marks-m : goal.bounds-marks-m
-bounds-marks-m c = omega arith
-
-pub overflow_add-c : goal.overflow_add-c
-overflow_add-c c = omega arith
-
-pub overflow_add-m : goal.overflow_add-m
-overflow_add-m c = omega arith
-
-pub loop-m-smaller : goal.loop-m-smaller
-loop-m-smaller c = omega arith
-
-pub loop-m-preserved : goal.loop-m-preserved
-loop-m-preserved c =
+pub loop-mark-preserved : goal.loop-mark-preserved
+loop-mark-preserved c =
     let marks = c.args.marks.now in
-    let m = c.loop-m.m in
-    let is = c.loop-m.invariant.2 in
-    elim c.if-marks-m.branch [
-      | then-marks-m w ↦ (omega arith, omega arith, w.c-is ∙ count_yes marks m is w.if-marks-m.true)
-      | else-marks-m w ↦ (omega arith, omega arith, w.c-is ∙ count_no marks m is w.if-marks-m.false)
+    let m = c.loop-mark.mark-index in
+    let is = c.loop-mark.invariant.1 in
+    let h : m < c.args.n = omega (arith, length-take-le c.args.n marks (omega arith)) in
+    let same = sym (get_or-take c.args.n marks m false h) in
+    elim c.if-mark.branch [
+      | then-mark w ↦ (omega arith, w.c-is ∙ count_yes marks m is (same ∙ w.if-mark.true))
+      | else-mark w ↦ (omega arith, w.c-is ∙ count_no marks m is (same ∙ w.if-mark.false))
     ]
 
 pub returns : goal.returns
 returns c =
-    let s = c.before.before.args in
-    let q : c.before.loop-m.m ≡ s.n = omega arith in
-    c.before.loop-m.invariant.2 ∙ ap (marked s.marks.now) q
+    let a = c.args in
+    let q : c.loop-mark.mark-index ≡ a.n = omega (arith, length-take-le a.n a.marks.now (omega arith)) in
+    c.loop-mark.invariant.1 ∙ ap (marked a.marks.now) q

@@ -1,32 +1,21 @@
 -- `line::find` meets its contract. The invariant: a search from `i` on finds what one from `from` on does. Assumes nothing.
-use mathlib.Core.Path.{refl}
-use Prim.Native.Nat.{◌≤◌}
-use native.Mathlib.Omega.{arith}
-use lib.ListN.{length}
+use Rattle.std.proofs.Common.{◌≡◌, ◌<◌, ◌≤◌, length, max, ⊎_elim, arith}
+use Rattle.std.proofs.lemmas.Bool.{cases_lt}
+use Rattle.std.proofs.lemmas.Bool.Decides.{nat_tests}
 use Rattle.line.proofs.Parts.{until_stop, until-more, until_end}
 use Rattle.line.proofs.find.Goals as goal
 
-pub loop-i-init : goal.loop-i-init
-loop-i-init c = refl
-
 pub returns-then-s-i : goal.returns-then-s-i
-returns-then-s-i c =
-    let args = c.args in
-    omega (arith, c.loop-i.invariant, until_stop args.s.now c.loop-i.i args.b c.loop-i-test.true c.if-s-i.true)
-
-pub overflow_add-i : goal.overflow_add-i
-overflow_add-i c = omega arith
-
-pub loop-i-smaller : goal.loop-i-smaller
-loop-i-smaller c = omega arith
+returns-then-s-i c = omega (arith, c.loop-i.invariant, until_stop c.args.s.now c.loop-i.i c.args.b c.loop-i-test.true c.if-s-i.true)
 
 pub loop-i-preserved : goal.loop-i-preserved
-loop-i-preserved c =
-    let args = c.args in
-    omega (arith, c.loop-i.invariant, until-more args.s.now c.loop-i.i args.b c.loop-i-test.true c.if-s-i.false)
+loop-i-preserved c = omega (arith, c.loop-i.invariant, until-more c.args.s.now c.loop-i.i c.args.b c.loop-i-test.true c.if-s-i.false)
 
 pub returns : goal.returns
 returns c =
-    let args = c.args in
-    let past : length args.s.now ≤ c.loop-i.i = omega arith in
-    omega (arith, c.loop-i.invariant, until_end args.s.now c.loop-i.i args.b past)
+    let is_max : c.max.result ≡ max c.args.from (length c.args.s.now) = grind (arith, nat_tests, c.max.ensures) in
+    let end = until_end c.args.s.now c.loop-i.i c.args.b c.loop-i-test.false in
+    ⊎_elim
+    (λ (h : c.args.from < length c.args.s.now). omega (arith, c.loop-i.invariant))
+    (λ (h : length c.args.s.now ≤ c.args.from). omega (arith, until_end c.args.s.now c.args.from c.args.b h))
+    (cases_lt c.args.from (length c.args.s.now))

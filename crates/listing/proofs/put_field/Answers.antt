@@ -5,4 +5,4 @@ use Rattle.listing.proofs.put_field.Goals as goal
 
 pub returns : goal.returns
 returns c =
-    put-more (put_one c.put_byte.ensures) (rw (to_z-of_z c.ranges.w) at c.put_number.ensures)
+    put-more (put_one c.put.ensures) (rw (to_z-of_z c.ranges.w) at c.put_number.ensures)

@@ -5,4 +5,4 @@ use Rattle.listing.proofs.put_first.Goals as goal
 
 pub returns : goal.returns
 returns c =
-    put-more c.put_bytes-p.ensures (rw (to_z-of_z c.ranges.z) at c.put_commas.ensures)
+    put-more c.put_all-p.ensures (rw (to_z-of_z c.ranges.z) at c.put_commas.ensures)

@@ -1,15 +1,14 @@
--- `listing::put_rows` meets its contract. The invariant: the rows from `m` on, whose words start at `start`, are left to put.
--- Assumes nothing.
-use Prim.Native.Nat.{◌+◌, ◌*◌, ◌-◌, ◌≤◌}
-use lib.ListN.{length, drop}
-use Rattle.stores.proofs.Puts.{Left}
-use Rattle.sheet.specs.Text.{row_lines}
+-- `listing::put_rows` meets its contract. The invariant: the rows from the iterator's number on, in the words that it has left, are left
+-- to put. Assumes nothing.
+use Rattle.std.proofs.Common.{◌≡◌}
+use Rattle.std.specs.Iterator.Adapters.{zip_first, zip_second}
+use Rattle.std.specs.Slice.Iter.{chunks_exact_rest, chunks_exact_size}
+use Rattle.listing.proofs.Rows.{RowsLeft}
 use Rattle.listing.proofs.put_rows.Given as goal
 
 abbrev pub invariant-loop-m : goal.invariant-loop-m
 invariant-loop-m l =
-    Left l.initial.out l.at (row_lines l.len l.n 0 l.table) l.out l.p (row_lines l.len (l.n - l.m) l.m (drop l.start l.table))
-    × (l.p ≤ l.at + 22 * l.start + 22 * l.m) × (l.start + (l.n - l.m) * l.len ≤ length l.table) × (l.m ≤ l.n)
-
-abbrev pub decreases-loop-m : goal.decreases-loop-m
-decreases-loop-m l = l.n - l.m
+    let numbers = zip_first l.m-iterator in
+    let rows = zip_second l.m-iterator in
+    RowsLeft l.initial.out l.at l.len l.n l.table l.out l.p numbers.start (chunks_exact_rest rows)
+    × (numbers.end ≡ l.n) × (chunks_exact_size rows ≡ l.len)

@@ -35,6 +35,7 @@ put_rows-requires c =
     let size = commas-few (pos (n / len) ∷ []) in
     let put = rw (to_z-of_z (fits n len c.requires)) at c.put_first-p.ensures in
     record {
+      some = len-some _ c.row_len-len.ensures;
       early = omega (arith, put.past);
       inside = div-mul-le_self n len;
       table_short = c.requires;

@@ -1,14 +1,10 @@
 -- `write_row` meets its contract: so far the ranges of the dimensions passed are written. Assumes nothing.
 use mathlib.Core.Bool.{true, false}
-use Prim.Native.Nat.{◌+◌, ◌-◌, ◌≤◌}
+use Prim.Native.Nat.{◌+◌}
 use Rattle.integers.specs.Words.{pairs_below}
 use Rattle.points.specs.Ends.{end_at}
 use Rattle.narrow.proofs.Writes.{Written}
 use Rattle.narrow.proofs.write_row.Given as goal
 
 abbrev pub invariant-loop-d : goal.invariant-loop-d
-invariant-loop-d l = (l.d ≤ l.k) × Written l.initial.table (l.at + 1) (pairs_below l.d (λ m. end_at false m l.ends) (λ m. end_at true m l.ends))
-    l.table l.moved
-
-abbrev pub decreases-loop-d : goal.decreases-loop-d
-decreases-loop-d l = l.k - l.d
+invariant-loop-d l = Written l.initial.table (l.at + 1) (pairs_below l.d (λ m. end_at false m l.ends) (λ m. end_at true m l.ends)) l.table l.moved

@@ -1,58 +1,51 @@
--- `placement::all_good` meets its contract: so far every row passed is clear of the rows before it. Assumes nothing.
-use mathlib.Core.Path.{sym, subst}
-use mathlib.Core.Logic.{⊎_elim}
-use Prim.Native.Nat.{◌+◌}
+-- `placement::all_good` meets its contract: each row is clear of the rows before it, or one is bad. Assumes nothing.
+use mathlib.Core.Path.{◌≡◌, refl, sym, subst}
+use mathlib.Core.Bool.{Bool, true, false}
+use mathlib.Core.List.{List}
+use Prim.Native.Nat.{ℕ, ◌+◌, ◌-◌, ◌<◌}
 use native.Mathlib.Omega.{arith}
-use borrow.Author.Rules.{rules}
-use Rattle.integers.proofs.Booleans.{not-true, not-false}
-use Rattle.integers.proofs.Below.{up_next, same_or}
-use Rattle.sheet.specs.Placement.{good}
+use lib.IntN.{ℤ}
+use lib.ListN.{length, get_or}
+use Rattle.std.proofs.Common.{rules, tests}
+use Rattle.std.specs.Bool.{MatchBool}
+use Rattle.std.specs.List.{range_with_len, AllWithin, HoldsAt}
+use Rattle.std.proofs.lemmas.Iterator.{YieldsList-from_range, cases_from_all}
+use Rattle.std.proofs.lemmas.List.FromFn.{length-range_with_len, get_or-range_with_len}
+use Rattle.sheet.specs.Layout.{rows}
+use Rattle.sheet.specs.Placement.{fixed, good}
 use Rattle.accept.proofs.Turns.{upto_false}
 use Rattle.placement.specs.Rows.{row_good}
 use Rattle.placement.specs.Before.{Clear, Judged}
 use Rattle.placement.proofs.Earlier.{clear-good}
-use Rattle.placement.proofs.all_good.Lts as lts
-use Rattle.placement.proofs.all_good.Reads as reads
-use Rattle.placement.proofs.all_good.Tie as tie
 use Rattle.placement.proofs.all_good.Goals as goal
 
-abbrev After-row_stands : Type 0
-After-row_stands = lts.After-row_stands tie.the-claims reads.Pre reads.Post goal.the-invariant-loop-m goal.the-decreases-loop-m
+module _ (block t : List ℤ) (all-fixed : fixed block t ≡ true) where
+  abbrev judged : Bool → ℕ → Type 0
+  judged b m = Judged block t (m + 1) b
 
--- what was found of the row at hand
-answer : (c : After-row_stands) → let a = c.args in
-    Judged a.block.now a.table.now (c.loop-m.m + 1) c.row_stands.result
-answer c = rw c.row_place.ensures.1 at c.row_stands.ensures
+  -- what the judging of n rows found
+  abbrev found : ℕ → Bool → Type 0
+  found n r =
+      let ms = range_with_len 0 n in
+      MatchBool r (AllWithin (judged true) ms 0 (length ms)) ((k : ℕ) × (k < length ms) × HoldsAt (judged false) ms k)
 
-pub rows_of-n-requires : goal.rows_of-n-requires
-rows_of-n-requires c = c.requires.accepted.head
-
-pub loop-m-init : goal.loop-m-init
-loop-m-init c = (search rules, λ i h k. absurd (omega arith))
-
-pub row_place-requires : goal.row_place-requires
-row_place-requires c =
-    let s = c.requires in
-    (s.accepted.head, s.table.whole, up_next (omega (arith, c.rows_of-n.ensures, c.loop-m-test.true)))
-
-pub row_stands-requires : goal.row_stands-requires
-row_stands-requires c = (c.requires, c.row_place.ensures.0)
-
-pub returns-then-not-row_stands : goal.returns-then-not-row_stands
-unfolding good
-returns-then-not-row_stands c =
-    let a = c.args in
-    sym (upto_false (row_good a.block.now a.table.now) (omega (arith, c.rows_of-n.ensures))
-    ((answer c.before).bad (not-true c.if-not-row_stands.true-raw)))
-
-pub loop-m-preserved : goal.loop-m-preserved
-loop-m-preserved c =
-    let here = (answer c.before).clear (not-false c.if-not-row_stands.false-raw) in (
-      search rules,
-      λ i h k. ⊎_elim (λ q. subst (Clear _ _) (sym q) here) (λ q. c.loop-m.invariant.1 i h (omega (arith, k, q))) (same_or i (c.loop-m.m + 1)),
-    )
+  is-good : (n : ℕ) → n ≡ rows block t → (r : Bool) → found n r → r ≡ good block t
+  unfolding good
+  is-good n e true all =
+      sym (clear-good block t all-fixed (λ i row.
+      let l : i - 1 < n = omega (arith, e, row.from, row.upto) in
+      let q : get_or (range_with_len 0 n) (i - 1) 0 + 1 ≡ i = omega (arith, get_or-range_with_len 0 n (i - 1) 0 l, row.from) in
+      subst (Clear block t) q ((all (i - 1) 0 (omega arith) (omega (arith, l, length-range_with_len 0 n))).clear refl)))
+  is-good n e false some =
+      let l : some.0 < n = omega (arith, some.1, length-range_with_len 0 n) in
+      let q : get_or (range_with_len 0 n) some.0 0 ≡ some.0 = omega (arith, get_or-range_with_len 0 n some.0 0 l) in
+      sym (upto_false (row_good block t) (omega (arith, l, e)) ((subst (judged false) q (some.2 0)).bad refl))
 
 pub returns : goal.returns
 returns c =
-    sym (clear-good _ _ c.requires.all_fixed
-    (λ i row. c.loop-m.invariant.1 i row.from (omega (arith, c.rows_of-n.ensures, row.upto, c.loop-m-test.false))))
+    let a = c.args in
+    let f = judged a.block.now a.table.now c.requires.all_fixed in
+    is-good a.block.now a.table.now c.requires.all_fixed c.rows_of.result c.rows_of.ensures _
+    (cases_from_all _ _ _ (f true) (f false) c.all.ensures.ran
+    (YieldsList-from_range 0 c.rows_of.result c.rows_of.result (search rules) (omega arith))
+    (λ x q k. search (rules, tests)) (λ x q k. search (rules, tests)))

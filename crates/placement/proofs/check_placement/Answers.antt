@@ -1,33 +1,19 @@
 -- `placement::check_placement` meets its contract: a refusal is handed on, and otherwise the placement is fixed. Assumes nothing.
 use mathlib.Core.Path.{◌≡◌, sym, ap, ◌∙◌}
+use Rattle.std.proofs.Common.{rules}
+use Rattle.std.specs.Prelude.{Ok}
 use Rattle.sheet.specs.Refusal.{refusal_placement}
-use Rattle.sheet.specs.declared.Verdict.TheVariants as Q
 use Rattle.sheet.proofs.Accepted.{accepted-block, accepted-table}
-use Rattle.words.proofs.Reading.{read_back}
-use Rattle.accept.proofs.Chain.{refused, accepted}
-use Rattle.placement.proofs.Verdicts.{checked, answer-refused, answer-good, answer-not}
-use Rattle.placement.proofs.check_placement.Lts as lts
-use Rattle.placement.proofs.check_placement.Reads as reads
-use Rattle.placement.proofs.check_placement.Tie as tie
+use Rattle.sheet.proofs.Answer.{answered, passed, refused}
+use Rattle.placement.proofs.Verdicts.{checked}
 use Rattle.placement.proofs.check_placement.Goals as goal
+use Rattle.placement.proofs.check_placement.Goals.{In_ok-check_placement}
 
-abbrev Else-g-gt0 : Type 0
-Else-g-gt0 = lts.Else1 tie.the-claims reads.Pre reads.Post
+none : (c : In_ok-check_placement) → let a = c.args in refusal_placement a.block.now a.table.now ≡ 0
+none c = passed _ _ c.check_placement.ensures c.in_ok-check_placement.was
 
-abbrev After-all_good : Type 0
-After-all_good = lts.After-all_good tie.the-claims reads.Pre reads.Post
-
-none : (c : Else-g-gt0) → let a = c.args in refusal_placement a.block.now a.table.now ≡ 0
-none c = accepted c.placement_refusal-g.ensures c.placement_refusal-g.type_inv c.if-g-gt0.false
-
--- the placement was judged where no check applied
-abbrev checks-left : After-all_good → Else-g-gt0
-checks-left x = x.before.before.before.before
-
-pub returns-then-g-gt0 : goal.returns-then-g-gt0
-returns-then-g-gt0 c =
-    let g = c.placement_refusal-g in
-    ap Q.Refused (read_back g.ensures g.type_inv) ∙ sym (answer-refused _ (refused g.ensures g.type_inv c.if-g-gt0.true))
+pub returns-in_err-check_placement : goal.returns-in_err-check_placement
+returns-in_err-check_placement c = refused _ _ _ c.check_placement.ensures c.in_err-check_placement.was (search rules)
 
 pub draw-requires : goal.draw-requires
 draw-requires c = accepted-block _ _ (checked _ _ (none c.before)).0
@@ -42,8 +28,5 @@ all_good-requires c =
       all_fixed = w.1;
     }
 
-pub returns-then-all_good : goal.returns-then-all_good
-returns-then-all_good c = let x = c.before in answer-good (none (checks-left x)) (sym c.if-all_good.true ∙ x.all_good.ensures)
-
 pub returns : goal.returns
-returns c = let x = c.before in answer-not (none (checks-left x)) (sym c.if-all_good.false ∙ x.all_good.ensures)
+returns c = ap Ok c.all_good.ensures ∙ sym (answered _ (passed _ _ c.check_placement.ensures c.in_ok-check_placement.was))

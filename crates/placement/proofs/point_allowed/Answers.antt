@@ -2,76 +2,52 @@
 use mathlib.Core.Path.{◌≡◌, sym, ap, ap₂, ◌∙◌, subst}
 use mathlib.Core.List.{List}
 use Prim.Native.Nat.{ℕ}
-use lib.IntN.{ℤ, pos, nat_abs}
+use lib.IntN.{ℤ, nat_abs}
 use mir.Syntax.{w64}
 use mir.Val.{to_z, of_z}
 use mir.Facts.{to_z-of_z}
+use Rattle.std.proofs.Common.{rules}
+use Rattle.std.specs.Prelude.{Ok}
 use Rattle.integers.specs.Integer.{nat}
 use Rattle.integers.proofs.Machine.{cast_ok}
 use Rattle.sheet.specs.Allowed.{allowed}
 use Rattle.sheet.specs.Accepted.{Boxed}
 use Rattle.sheet.specs.Refusal.{refusal_shape}
-use Rattle.sheet.specs.declared.PointTest.TheVariants as P
 use Rattle.sheet.proofs.Accepted.{accepted-head, accepted-rows, accepted-block, accepted-table}
-use Rattle.words.proofs.Reading.{read_back, cast-nat}
-use Rattle.accept.proofs.Chain.{refused, accepted}
+use Rattle.sheet.proofs.Answer.{answered, passed, refused}
+use Rattle.words.proofs.Reading.{cast-nat}
 use Rattle.accept.proofs.Numbers.{row_upto}
 use Rattle.accept.proofs.Shapes.{ShapeAsked, shape-asked}
-use Rattle.placement.proofs.Calls.{answer-refused, answer-allowed, answer-not}
-use Rattle.placement.proofs.point_allowed.Lts as lts
-use Rattle.placement.proofs.point_allowed.Reads as reads
-use Rattle.placement.proofs.point_allowed.Tie as tie
 use Rattle.placement.proofs.point_allowed.Goals as goal
+use Rattle.placement.proofs.point_allowed.Goals.{In_ok-check_shape}
 
-abbrev After-shape_refusal-g : Type 0
-After-shape_refusal-g = lts.After-shape_refusal tie.the-claims reads.Pre reads.Post
-
-abbrev Start : Type 0
-Start = lts.Start tie.the-claims reads.Pre reads.Post
-
-abbrev After-stands : Type 0
-After-stands = lts.After-stands tie.the-claims reads.Pre reads.Post
-
-told : (c : After-shape_refusal-g) → let a = c.args in
-    c.shape_refusal-g.result ≡ pos (refusal_shape a.block.now a.table.now a.row a.shape)
-told c = c.shape_refusal-g.ensures ∙ ap pos (ap₂ (refusal_shape _ _) (to_z-of_z c.ranges.row) (to_z-of_z c.ranges.shape))
-
-module _ (e : goal.Else-g-gt0) where
-  abbrev top : Start
-  top = e.before.before
-
+module _ (e : In_ok-check_shape) where
   abbrev block : List ℤ
   block = e.args.block.now
 
   abbrev t : List ℤ
   t = e.args.table.now
 
-  no-refusal : refusal_shape block t top.args.row top.args.shape ≡ 0
-  no-refusal = accepted (told e.before) e.shape_refusal-g.type_inv e.if-g-gt0.false
+  no-refusal : refusal_shape block t e.args.row e.args.shape ≡ 0
+  no-refusal =
+      let f = e.ranges in
+      passed (refusal_shape block t e.args.row e.args.shape) _
+      (simp (to_z-of_z f.row, to_z-of_z f.shape) at e.check_shape.ensures) e.in_ok-check_shape.was
 
-  asks : ShapeAsked block t top.args.row top.args.shape
-  asks = shape-asked block t top.args.row top.args.shape no-refusal
+  asks : ShapeAsked block t e.args.row e.args.shape
+  asks = shape-asked block t e.args.row e.args.shape no-refusal
 
-  row_is : nat_abs (to_z w64 (of_z w64 top.args.row)) ≡ nat top.args.row
-  row_is = cast-nat top.args.row top.ranges.row.sfits asks.row_in.count
+  row_is : nat_abs (to_z w64 (of_z w64 e.args.row)) ≡ nat e.args.row
+  row_is = cast-nat e.args.row e.ranges.row.sfits asks.row_in.count
 
-  shape_is : nat_abs (to_z w64 (of_z w64 top.args.shape)) ≡ nat top.args.shape
-  shape_is = cast-nat top.args.shape top.ranges.shape.sfits asks.shape_in
+  shape_is : nat_abs (to_z w64 (of_z w64 e.args.shape)) ≡ nat e.args.shape
+  shape_is = cast-nat e.args.shape e.ranges.shape.sfits asks.shape_in
 
--- the point was judged where no check applied
-abbrev checks-left : After-stands → goal.Else-g-gt0
-checks-left x = x.before.before.before.before.before
-
-found : (x : After-stands) → let e = checks-left x in
-    x.stands.result ≡ allowed (block e) (t e) (nat (top e).args.row) (nat (top e).args.shape) (top e).args.p
-found x =
-    let e = x.before.before.before.before.before in
-    x.stands.ensures ∙ ap₂ (λ (i s : ℕ). allowed (block e) (t e) i s (top e).args.p) (x.row_place-i.ensures.1 ∙ row_is e) (shape_is e)
-
-pub returns-then-g-gt0 : goal.returns-then-g-gt0
-returns-then-g-gt0 c =
-    let g = c.shape_refusal-g in
-    ap P.Refused (read_back (told c.before) g.type_inv) ∙ sym (answer-refused _ (refused (told c.before) g.type_inv c.if-g-gt0.true))
+pub returns-in_err-check_shape : goal.returns-in_err-check_shape
+returns-in_err-check_shape c =
+    let f = c.ranges in
+    refused (refusal_shape c.args.block.now c.args.table.now c.args.row c.args.shape) _ _
+    (simp (to_z-of_z f.row, to_z-of_z f.shape) at c.check_shape.ensures) c.in_err-check_shape.was (search rules)
 
 pub overflow_cast-row : goal.overflow_cast-row
 overflow_cast-row c = let n = (asks c).row_in.count in cast_ok n.from n.upto tt tt
@@ -94,17 +70,16 @@ pub stands-requires : goal.stands-requires
 stands-requires c =
     let e = c.before.before.before.before in
     let a = asks e in
-    let table = accepted-table (block e) (t e) a.accepted in
     record {
       accepted = accepted-block (block e) (t e) a.accepted;
-      table = table;
+      table = accepted-table (block e) (t e) a.accepted;
       outline = c.draw.ensures;
       row = c.row_place-i.ensures.0;
       shape = subst (Boxed (block e)) (sym (shape_is e)) a.boxed;
     }
 
-pub returns-then-stands : goal.returns-then-stands
-returns-then-stands c = let x = c.before in answer-allowed (no-refusal (checks-left x)) (sym c.if-stands.true ∙ found x)
-
 pub returns : goal.returns
-returns c = let x = c.before in answer-not (no-refusal (checks-left x)) (sym c.if-stands.false ∙ found x)
+returns c =
+    let e = c.before.before.before.before.before in
+    ap Ok (c.stands.ensures ∙ ap₂ (λ (i s : ℕ). allowed (block e) (t e) i s e.args.p) (c.row_place-i.ensures.1 ∙ row_is e) (shape_is e))
+    ∙ sym (answered _ (no-refusal e))

@@ -6,26 +6,12 @@ use lib.IntN.{ℤ}
 use lib.Signed.{mag}
 use mir.Syntax.{w64}
 use mir.Val.{to_z, of_z}
+use Rattle.std.proofs.Common.{rules}
 use Rattle.sheet.specs.Relation.{compared, relation_between}
 use Rattle.points.proofs.Sums.{bits_back}
 use Rattle.relate.specs.Comparisons.{index_of}
 use Rattle.relate.proofs.Table.{entry-is, index_below}
-use Rattle.relate.proofs.between.Lts as lts
-use Rattle.relate.proofs.between.Reads as reads
-use Rattle.relate.proofs.between.Tie as tie
 use Rattle.relate.proofs.between.Goals as goal
-
-abbrev After-compared-r : Type 0
-After-compared-r = lts.After-compared3 tie.the-claims reads.Pre reads.Post
-
-abbrev After-compared-q : Type 0
-After-compared-q = lts.After-compared2 tie.the-claims reads.Pre reads.Post
-
-abbrev After-compared-p : Type 0
-After-compared-p = lts.After-compared tie.the-claims reads.Pre reads.Post
-
-abbrev Start : Type 0
-Start = lts.Start tie.the-claims reads.Pre reads.Post
 
 -- a comparison of two words, as they come back from their bits
 back : {r : ℕ} (x y : ℤ) → mag x < 2 ^ 63 → mag y < 2 ^ 63 → r ≡ index_of (compared (to_z w64 (of_z w64 x)) (to_z w64 (of_z w64 y)))
@@ -34,39 +20,19 @@ back x y f g e = e ∙ ap₂ (λ (a b : ℤ). index_of (compared a b)) (bits_bac
 
 -- ---- the four comparisons
 module _ (c : goal.After-compared-s) where
-  abbrev c3 : After-compared-r
-  c3 = c.before.before.before
+  first : c.compared-p.result ≡ index_of (compared c.args.x.end c.args.y.start)
+  first = back _ _ (search rules) (search rules) c.compared-p.ensures
 
-  abbrev c2 : After-compared-q
-  c2 = c3.before.before.before
+  second : c.compared-q.result ≡ index_of (compared c.args.x.start c.args.y.end)
+  second = back _ _ (search rules) (search rules) c.compared-q.ensures
 
-  abbrev c1 : After-compared-p
-  c1 = c2.before.before.before
+  third : c.compared-r.result ≡ index_of (compared c.args.x.start c.args.y.start)
+  third = back _ _ (search rules) (search rules) c.compared-r.ensures
 
-  abbrev start : Start
-  start = c1.before.before.before
+  fourth : c.compared-s.result ≡ index_of (compared c.args.x.end c.args.y.end)
+  fourth = back _ _ (search rules) (search rules) c.compared-s.ensures
 
-  first : c1.compared-p.result ≡ index_of (compared start.args.x.end start.args.y.start)
-  first =
-      back start.args.x.end start.args.y.start
-      c1.struct_told-1.given.1.0.1 c1.struct_told-2-1.given.0.1 c1.compared-p.ensures
-
-  second : c2.compared-q.result ≡ index_of (compared start.args.x.start start.args.y.end)
-  second =
-      back start.args.x.start start.args.y.end
-      c2.struct_told-3-1.given.0.1 c2.struct_told-4-1.given.1.0.1 c2.compared-q.ensures
-
-  third : c3.compared-r.result ≡ index_of (compared start.args.x.start start.args.y.start)
-  third =
-      back start.args.x.start start.args.y.start
-      c3.struct_told-5-1.given.0.1 c3.struct_told-6-1.given.0.1 c3.compared-r.ensures
-
-  fourth : c.compared-s.result ≡ index_of (compared start.args.x.end start.args.y.end)
-  fourth =
-      back start.args.x.end start.args.y.end
-      c.struct_told-7-1.given.1.0.1 c.struct_told-8-1.given.1.0.1 c.compared-s.ensures
-
-  small : (c1.compared-p.result < 3) × (c2.compared-q.result < 3) × (c3.compared-r.result < 3) × (c.compared-s.result < 3)
+  small : (c.compared-p.result < 3) × (c.compared-q.result < 3) × (c.compared-r.result < 3) × (c.compared-s.result < 3)
   small = (rw first (index_below _), rw second (index_below _), rw third (index_below _), rw fourth (index_below _))
 
 pub offset_bounds-p : goal.offset_bounds-p

@@ -5,16 +5,16 @@ use Rattle.sheet.specs.Text.{ascii, printed_for}
 use Rattle.room.specs.Answers.{printed_of}
 use Rattle.room.proofs.write_answer.Goals as goal
 
-pub returns-in-Settled : goal.returns-in-Settled
+pub returns-in-Ok-true : goal.returns-in-Ok-true
 unfolding printed_of
-returns-in-Settled c = rw c.in-Settled.is c.put_settled.ensures
+returns-in-Ok-true c = rw (c.in-Ok-true.is, c.in-Ok-true.field-0-test) c.put_settled.ensures
 
-pub returns-in-NoLayout : goal.returns-in-NoLayout
+pub returns-in-Ok-false : goal.returns-in-Ok-false
 unfolding printed_of printed_for ascii
-returns-in-NoLayout c = rw c.in-NoLayout.is c.put_bytes.ensures
+returns-in-Ok-false c = rw (c.in-Ok-false.is, c.in-Ok-false.field-0-test) c.put_all.ensures
 
-pub returns-in-Refused : goal.returns-in-Refused
+pub returns-in-Err : goal.returns-in-Err
 unfolding printed_of
-returns-in-Refused c =
-    let f : FitsSigned w64 c.in-Refused.g = search rules in
-    rw c.in-Refused.is (rw (to_z-of_z f) at c.put_refused.ensures)
+returns-in-Err c =
+    let fits : FitsSigned w64 c.from.result = search rules in
+    rw c.in-Err.is (rw (to_z-of_z fits, c.from.ensures) at c.put_refused.ensures)

@@ -2,20 +2,13 @@
 -- the last that counts is needed. Assumes nothing.
 use mathlib.Core.Path.{◌≡◌}
 use mathlib.Core.Bool.{true}
-use Prim.Native.Nat.{ℕ, ◌-◌, ◌≤◌, ◌<◌}
-use lib.ListN.{length}
+use Prim.Native.Nat.{ℕ, ◌<◌}
 use Rattle.integers.specs.Bits.{bit}
 use Rattle.integers.specs.Words.{word}
-use Rattle.sheet.specs.Layout.{rules}
 use Rattle.outline.specs.Places.{rules_at}
 use Rattle.settle.specs.Todo.{Spared, Touched}
 use Rattle.settle.proofs.touched.Given as goal
 
 abbrev pub invariant-loop-r : goal.invariant-loop-r
 invariant-loop-r l =
-    (l.r ≤ l.count) × (l.count ≡ rules l.block)
-    × Touched l.n l.initial.due (λ m. (q : ℕ) → q < l.r → bit (word l.outline rules_at) q ≡ true → Spared l.block l.table l.i.number q m) l.due
-    × (length l.due ≡ length l.initial.due)
-
-abbrev pub decreases-loop-r : goal.decreases-loop-r
-decreases-loop-r l = l.count - l.r
+    Touched l.n l.initial.due (λ m. (q : ℕ) → q < l.r → bit (word l.outline rules_at) q ≡ true → Spared l.block l.table l.i.number q m) l.due

@@ -1,12 +1,8 @@
 -- `splits::shapes_between` meets its contract: so far the set has the shapes passed. Assumes nothing.
 use mathlib.Core.Path.{◌≡◌}
-use Prim.Native.Nat.{◌-◌, ◌≤◌}
 use Rattle.integers.specs.Bits.{set_of}
 use Rattle.splits.specs.Splits.{is_between}
 use Rattle.splits.proofs.shapes_between.Given as goal
 
 abbrev pub invariant-loop-s : goal.invariant-loop-s
-invariant-loop-s l = (l.s ≤ 32) × (l.shapes ≡ set_of l.s (is_between l.set l.from l.to))
-
-abbrev pub decreases-loop-s : goal.decreases-loop-s
-decreases-loop-s l = 32 - l.s
+invariant-loop-s l = l.shapes ≡ set_of l.s (is_between l.set l.from l.to)

@@ -5,7 +5,7 @@ use Prim.Native.Nat.{ℕ, suc, ◌-◌, ◌+◌}
 use native.Mathlib.Omega.{arith}
 use borrow.Author.Tests.{ltb-true}
 use Rattle.integers.specs.Words.{list_below}
-use Rattle.sweep.proofs.Rotations.{rotation-out, rotation-below}
+use Rattle.sweep.proofs.Rotations.{rotation-out, rotation_below}
 use Rattle.sweep.proofs.Table.{reduced, table-rule, reduced-rotation}
 use Rattle.sweep.proofs.rotated.Goals as goal
 use Rattle.sweep.proofs.rotated.Goals.{else-k-le-COORDINATES-via-then-k-le-COORDINATES+then-d-k+else-j-k}
@@ -34,7 +34,7 @@ pub bounds-table-j : goal.bounds-table-j
 bounds-table-j c = omega (arith, ltb-true)
 
 pub overflow_cast-result : goal.overflow_cast-result
-overflow_cast-result c = let a = c.args in omega (arith, returns-then-j-k c, rotation-below a.k a.d a.j)
+overflow_cast-result c = let a = c.args in omega (arith, returns-then-j-k c, rotation_below a.k a.d a.j)
 
 pub returns-else-k-le-COORDINATES : goal.returns-else-k-le-COORDINATES
 returns-else-k-le-COORDINATES c =

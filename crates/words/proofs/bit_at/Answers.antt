@@ -4,4 +4,4 @@ use Rattle.words.proofs.bit_at.Goals as goal
 
 pub returns : goal.returns
 unfolding bit bit_at
-returns c = rw c.count_at-set.ensures
+returns c = rw c.count_at.ensures

@@ -6,11 +6,11 @@ use Rattle.words.proofs.Ends.{row_ends}
 use Rattle.words.proofs.Reading.{read_back}
 use Rattle.words.proofs.high_of.Goals as goal
 
-pub overflow_add-at : goal.overflow_add-at
-overflow_add-at c = omega (arith, row_ends c.requires.0)
+pub overflow_add-i : goal.overflow_add-i
+overflow_add-i c = omega (arith, row_ends c.requires.0)
 
-pub overflow_add-at-2 : goal.overflow_add-at-2
-overflow_add-at-2 c = omega (arith, row_ends c.requires.0)
+pub overflow_add-i-2 : goal.overflow_add-i-2
+overflow_add-i-2 c = omega (arith, row_ends c.requires.0)
 
 pub word_at-requires : goal.word_at-requires
 word_at-requires c = omega (arith, row_ends c.requires.0)

@@ -5,8 +5,8 @@ use Rattle.sheet.specs.Layout.{dim_set, names_dim}
 use Rattle.words.proofs.Ends.{rule-ends}
 use Rattle.words.proofs.names_dim.Goals as goal
 
-pub overflow_add-at : goal.overflow_add-at
-overflow_add-at c = omega (arith, rule-ends c.requires.0)
+pub overflow_add-r : goal.overflow_add-r
+overflow_add-r c = omega (arith, rule-ends c.requires.0)
 
 pub bit_at-requires : goal.bit_at-requires
 unfolding dim_set

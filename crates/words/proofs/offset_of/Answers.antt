@@ -6,11 +6,11 @@ use Rattle.words.proofs.Ends.{box-ends}
 use Rattle.words.proofs.Reading.{read_back}
 use Rattle.words.proofs.offset_of.Goals as goal
 
-pub overflow_add-at : goal.overflow_add-at
-overflow_add-at c = omega (arith, box-ends c.requires.0)
+pub overflow_add-b : goal.overflow_add-b
+overflow_add-b c = omega (arith, box-ends c.requires.0)
 
-pub overflow_add-at-2 : goal.overflow_add-at-2
-overflow_add-at-2 c = omega (arith, box-ends c.requires.0)
+pub overflow_add-b-2 : goal.overflow_add-b-2
+overflow_add-b-2 c = omega (arith, box-ends c.requires.0)
 
 pub word_at-requires : goal.word_at-requires
 word_at-requires c = omega (arith, box-ends c.requires.0)

@@ -6,11 +6,11 @@ use Rattle.words.proofs.Ends.{rule-ends}
 use Rattle.words.proofs.Reading.{read_back}
 use Rattle.words.proofs.room_low.Goals as goal
 
-pub overflow_add-at : goal.overflow_add-at
-overflow_add-at c = omega (arith, rule-ends c.requires.0)
+pub overflow_add-r : goal.overflow_add-r
+overflow_add-r c = omega (arith, rule-ends c.requires.0)
 
-pub overflow_add-at-2 : goal.overflow_add-at-2
-overflow_add-at-2 c = omega (arith, rule-ends c.requires.0)
+pub overflow_add-r-2 : goal.overflow_add-r-2
+overflow_add-r-2 c = omega (arith, rule-ends c.requires.0)
 
 pub word_at-requires : goal.word_at-requires
 word_at-requires c = omega (arith, rule-ends c.requires.0)

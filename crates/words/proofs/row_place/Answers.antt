@@ -7,8 +7,8 @@ use Rattle.words.proofs.Ends.{row-at, row-at-ends}
 use Rattle.words.proofs.row_place.Goals as goal
 
 -- the code's position
-is : (c : goal.After-row_len-w) → (c.before.args.i - 1) * c.row_len-w.result ≡ row_at c.before.args.block.now c.before.args.i
-is c = rw c.row_len-w.ensures (row-at _ c.before.args.i c.before.requires.2.from)
+is : (c : goal.After-row_len) → (c.before.args.i - 1) * c.row_len.result ≡ row_at c.before.args.block.now c.before.args.i
+is c = rw c.row_len.ensures (row-at _ c.before.args.i c.before.requires.2.from)
 
 pub overflow_mul-result : goal.overflow_mul-result
 overflow_mul-result c = omega (arith, is c, row-at-ends c.before.requires.1 c.before.requires.2.from c.before.requires.2.upto)

@@ -6,8 +6,8 @@ use Rattle.words.proofs.Ends.{rule-ends}
 use Rattle.words.proofs.Reading.{read_back}
 use Rattle.words.proofs.row_set_of.Goals as goal
 
-pub overflow_add-at : goal.overflow_add-at
-overflow_add-at c = omega (arith, rule-ends c.requires)
+pub overflow_add-r : goal.overflow_add-r
+overflow_add-r c = omega (arith, rule-ends c.requires)
 
 pub word_at-requires : goal.word_at-requires
 word_at-requires c = omega (arith, rule-ends c.requires)

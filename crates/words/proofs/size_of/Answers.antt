@@ -6,18 +6,18 @@ use Rattle.words.proofs.Ends.{box-ends}
 use Rattle.words.proofs.Reading.{read_back}
 use Rattle.words.proofs.size_of.Goals as goal
 
-pub overflow_add-at : goal.overflow_add-at
-overflow_add-at c = omega (arith, c.dims_of-k.ensures, box-ends c.before.requires.0)
+pub overflow_add-b : goal.overflow_add-b
+overflow_add-b c = omega (arith, box-ends c.requires.0)
 
-pub overflow_add-at-2 : goal.overflow_add-at-2
-overflow_add-at-2 c = omega (arith, c.dims_of-k.ensures, box-ends c.before.requires.0)
+pub overflow_add-b-2 : goal.overflow_add-b-2
+overflow_add-b-2 c = omega (arith, c.dims_of.ensures, box-ends c.requires.0)
 
-pub overflow_add-at-3 : goal.overflow_add-at-3
-overflow_add-at-3 c = omega (arith, c.dims_of-k.ensures, box-ends c.before.requires.0)
+pub overflow_add-b-3 : goal.overflow_add-b-3
+overflow_add-b-3 c = omega (arith, c.dims_of.ensures, box-ends c.requires.0)
 
 pub word_at-requires : goal.word_at-requires
-word_at-requires c = omega (arith, c.dims_of-k.ensures, box-ends c.before.requires.0)
+word_at-requires c = omega (arith, c.dims_of.ensures, box-ends c.requires.0)
 
 pub returns : goal.returns
 unfolding size
-returns c = read_back c.word_at.ensures c.word_at.type_inv ∙ rw (c.before.before.requires.0.stands, c.before.dims_of-k.ensures)
+returns c = read_back c.word_at.ensures c.word_at.type_inv ∙ rw (c.requires.0.stands, c.dims_of.ensures)

@@ -1,25 +1,11 @@
--- `accept::block::valid_extents` meets its contract: an extent is tested a turn. Assumes nothing.
-use mathlib.Core.Path.{sym}
-use native.Mathlib.Omega.{arith}
-use borrow.Author.Rules.{rules}
-use Rattle.integers.proofs.Below.{all-zero, all-false}
-use Rattle.accept.proofs.Turns.{fails_by, passes-by, all-next, all_done}
+-- `accept::block::valid_extents` meets its contract: each extent is tested. Assumes nothing.
+use Rattle.std.proofs.Common.{rules, tests}
+use Rattle.integers.proofs.Scans.{all_in_range}
+use Rattle.sheet.specs.Layout.{dims}
+use Rattle.accept.specs.Parts.{valid_extent}
 use Rattle.accept.proofs.block.valid_extents.Goals as goal
 
-pub loop-d-init : goal.loop-d-init
-loop-d-init c = (search rules, all-zero _)
-
-pub valid_extent-requires : goal.valid_extent-requires
-valid_extent-requires c = (c.before.before.before.requires, omega (arith, c.before.before.dims_of-k.ensures))
-
-pub returns-then-not-valid_extent : goal.returns-then-not-valid_extent
-returns-then-not-valid_extent c =
-    let l = c.before.before.before in
-    sym (all-false _ l.loop-d.d (omega (arith, l.before.dims_of-k.ensures)) (fails_by c.before.valid_extent.ensures c.if-not-valid_extent.true-raw))
-
-pub loop-d-preserved : goal.loop-d-preserved
-loop-d-preserved c =
-    (search rules, all-next _ c.before.before.before.loop-d.invariant.1 (passes-by c.before.valid_extent.ensures c.if-not-valid_extent.false-raw))
-
 pub returns : goal.returns
-returns c = sym (all_done _ c.before.loop-d.invariant.1 (omega (arith, c.before.before.dims_of-k.ensures)))
+returns c =
+    all_in_range (dims c.args.block.now) (valid_extent c.args.block.now c.args.b.number) _ _ _ c.all.ensures.ran (search rules)
+    (λ x b q k. search (rules, tests))

@@ -1,10 +1,6 @@
 -- `accept::table::boxed_shapes` meets its contract: the flag of a box is set a turn. Assumes nothing.
-use Prim.Native.Nat.{◌-◌, ◌≤◌}
 use Rattle.accept.proofs.Marks.{Marks}
 use Rattle.accept.proofs.table.boxed_shapes.Given as goal
 
 abbrev pub invariant-loop-b : goal.invariant-loop-b
-invariant-loop-b l = (l.b ≤ l.n) × Marks l.block l.b l.flags
-
-abbrev pub decreases-loop-b : goal.decreases-loop-b
-decreases-loop-b l = l.n - l.b
+invariant-loop-b l = Marks l.block l.b l.flags

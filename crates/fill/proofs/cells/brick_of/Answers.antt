@@ -16,12 +16,12 @@ use Rattle.fill.proofs.Arrays.{one_more}
 use Rattle.fill.proofs.Bricks.{size-near, size-from}
 use Rattle.fill.proofs.cells.brick_of.Goals as goal
 
-few : (c : goal.After-dims_of-k) → c.dims_of-k.result ≤ 4
-few c = let k = c.requires.of.counting.room.accepted.head.few_dims in omega (arith, c.dims_of-k.ensures)
+few : (c : goal.After-dims_of-d-end) → c.dims_of-d-end.result ≤ 4
+few c = let k = c.requires.of.counting.room.accepted.head.few_dims in omega (arith, c.dims_of-d-end.ensures)
 
 -- the dimension at hand is one of the sheet's
 is-dim : (c : goal.In-loop-d) → c.loop-d.d < dims c.args.block.now
-is-dim c = omega (arith, c.dims_of-k.ensures)
+is-dim c = omega (arith, c.dims_of-d-end.ensures)
 
 size-count : (c : goal.After-size_of) → Count c.size_of.result
 size-count c =
@@ -31,11 +31,11 @@ size-count c =
     let b = size-near c.requires l in
     record { from = omega ints; upto = omega ints }
 
-pub dims_of-k-requires : goal.dims_of-k-requires
-dims_of-k-requires c = c.requires.of.counting.room.accepted.head
+pub dims_of-d-end-requires : goal.dims_of-d-end-requires
+dims_of-d-end-requires c = c.requires.of.counting.room.accepted.head
 
 pub loop-d-init : goal.loop-d-init
-loop-d-init c = (omega arith, search rules, search rules, λ e h. absurd (omega arith), λ e h. absurd (omega arith))
+loop-d-init c = (search rules, search rules, λ e h. absurd (omega arith), λ e h. absurd (omega arith))
 
 pub place_of-requires : goal.place_of-requires
 place_of-requires c = (c.requires, is-dim c)
@@ -58,25 +58,21 @@ offset_bounds-size-d c = omega (arith, few c.before.before.before.before)
 pub bounds-size-d : goal.bounds-size-d
 bounds-size-d c = omega (arith, few c.before.before.before.before)
 
-pub loop-d-smaller : goal.loop-d-smaller
-loop-d-smaller c = omega (arith, is-dim c.before.before)
-
 pub loop-d-preserved : goal.loop-d-preserved
 loop-d-preserved c =
     let a = c.args in
     let inv = c.loop-d.invariant in
     let below : c.loop-d.d < 4 = omega (arith, few c.before.before.before.before) in
     let read = c.size_of in (
-      omega arith,
+      simp length-set inv.0,
       simp length-set inv.1,
-      simp length-set inv.2,
-      one_more (IsPlace a.block.now a.table.now a.r.number a.i.number a.b.number) c.loop-d.from (omega (arith, inv.1))
-          inv.3 c.place_of.ensures,
-      one_more (IsSize a.block.now a.b.number) c.loop-d.size (omega (arith, inv.2))
-          inv.4 (ap pos (cast-nat _ read.type_inv (size-count c)) ∙ pos-nat (size-count c).from ∙ read.ensures),
+      one_more (IsPlace a.block.now a.table.now a.r.number a.i.number a.b.number) c.loop-d.from (omega (arith, inv.0))
+          inv.2 c.place_of.ensures,
+      one_more (IsSize a.block.now a.b.number) c.loop-d.size (omega (arith, inv.1))
+          inv.3 (ap pos (cast-nat _ read.type_inv (size-count c)) ∙ pos-nat (size-count c).from ∙ read.ensures),
     )
 
 pub returns : goal.returns
 returns c =
-    let all : (d : ℕ) → d < dims c.args.block.now → d < c.loop-d.d = λ d h. omega (arith, c.dims_of-k.ensures) in
-    record { from = λ d h. c.loop-d.invariant.3 d (all d h); size = λ d h. c.loop-d.invariant.4 d (all d h) }
+    let all : (d : ℕ) → d < dims c.args.block.now → d < c.loop-d.d = λ d h. omega (arith, c.dims_of-d-end.ensures) in
+    record { from = λ d h. c.loop-d.invariant.2 d (all d h); size = λ d h. c.loop-d.invariant.3 d (all d h) }

@@ -14,15 +14,12 @@ use Rattle.fill.proofs.cells.mark_rows.Goals.{then-names_row, else-names_row}
 pub widths_of-widths-requires : goal.widths_of-widths-requires
 widths_of-widths-requires c = c.requires.0.room
 
-pub rows_of-n-requires : goal.rows_of-n-requires
-rows_of-n-requires c = c.requires.0.room.accepted.head
-
 pub loop-m-init : goal.loop-m-init
-loop-m-init c = (omega arith, rows-first _ _ _)
+loop-m-init c = rows-first _ _ _
 
 -- the row at hand is one of the table's
 row_in : (c : goal.In-loop-m) → UpTo (rows c.args.block.now c.args.table.now) (c.loop-m.m + 1)
-row_in c = up_next (omega (arith, c.rows_of-n.ensures, c.loop-m-test.true))
+row_in c = up_next (omega arith)
 
 few-rows : (c : goal.In-loop-m) → c.loop-m.m + 1 ≤ 32
 few-rows c = omega (arith, (row_in c).upto, c.requires.0.table.whole.few_rows)
@@ -52,12 +49,6 @@ mark_row-requires c =
       c.widths_of-widths.ensures,
     )
 
-pub overflow_add-m-in-loop-m : goal.overflow_add-m-in-loop-m
-overflow_add-m-in-loop-m c = omega (arith, few-rows c.before.before)
-
-pub loop-m-smaller : goal.loop-m-smaller
-loop-m-smaller c = omega (arith, c.loop-m-test.true)
-
 pub loop-m-preserved : goal.loop-m-preserved
 loop-m-preserved c =
     let a = c.args in
@@ -66,15 +57,13 @@ loop-m-preserved c =
     let n = room_cells block a.r.number in
     let m = c.loop-m.m in
     let old = a.marks.now in
-    let named = sym c.names_row.ensures in (
-      omega (arith, c.loop-m-test.true),
-      elim c.if-names_row.branch [
-        | then-names_row x ↦ subst (Adds n (rows_to block t a.r.number (m + 1)) old) (sym x.marks-is)
-            (rows_named block t a.r.number m x.row_place-i.ensures.1 (named ∙ x.if-names_row.true) c.loop-m.invariant.1 x.mark_row.ensures)
-        | else-names_row x ↦ subst (Adds n (rows_to block t a.r.number (m + 1)) old) (sym x.marks-is)
-            (rows_other block t a.r.number m (named ∙ x.if-names_row.false) c.loop-m.invariant.1)
-      ],
-    )
+    let named = sym c.names_row.ensures in
+    elim c.if-names_row.branch [
+      | then-names_row x ↦ subst (Adds n (rows_to block t a.r.number (m + 1)) old) (sym x.marks-is)
+          (rows_named block t a.r.number m x.row_place-i.ensures.1 (named ∙ x.if-names_row.true) c.loop-m.invariant x.mark_row.ensures)
+      | else-names_row x ↦ subst (Adds n (rows_to block t a.r.number (m + 1)) old) (sym x.marks-is)
+          (rows_other block t a.r.number m (named ∙ x.if-names_row.false) c.loop-m.invariant)
+    ]
 
 pub returns : goal.returns
-returns c = rows_all _ _ _ (omega (arith, c.loop-m-test.false, c.rows_of-n.ensures)) c.loop-m.invariant.1
+returns c = rows_all _ _ _ (omega arith) c.loop-m.invariant

@@ -1,99 +1,21 @@
 -- `pair::pair_area` meets its contract: so far the field is cut in each dimension passed. Assumes nothing.
-use mathlib.Core.Path.{◌≡◌, sym, ap₂, ◌∙◌}
-use Prim.Native.Nat.{◌<◌}
+use mathlib.Core.Path.{sym, ◌∙◌}
 use native.Mathlib.Omega.{arith}
-use lib.IntN.{ℤ}
-use lib.ListN.{length-set}
-use borrow.Author.Rules.{rules}
-use Rattle.integers.specs.Integer.{within}
-use Rattle.integers.specs.Words.{word}
-use Rattle.integers.proofs.Booleans.{implies-in, implies-out}
-use Rattle.integers.proofs.Ints.{ints}
-use Rattle.integers.proofs.Machine.{within_by}
-use Rattle.sheet.specs.Layout.{dims}
-use Rattle.sheet.proofs.Forbidden.{axis}
-use Rattle.points.specs.Area.{coordinates, field_area}
-use Rattle.points.proofs.Sums.{near-back}
-use Rattle.points.proofs.Fills.{fills-none, fills-skip, fills-set}
-use Rattle.forbid.specs.Pair.{side_forbids, solids_forbid}
+use Rattle.forbid.proofs.Solids.{sides-none, sides-skip, sides-set, sides-all}
 use Rattle.forbid.proofs.pair.pair_area.Goals as goal
 use Rattle.forbid.proofs.pair.pair_area.Goals.{then-names_dim, else-names_dim}
 
-pub dims_of-k-requires : goal.dims_of-k-requires
-dims_of-k-requires c = c.requires.accepted.head
-
-pub overflow_sub-low : goal.overflow_sub-low
-overflow_sub-low c = omega ints
-
 pub loop-d-init : goal.loop-d-init
-unfolding field_area
-loop-d-init c = (omega arith, search rules, search rules, fills-none _)
-
--- the dimension at hand is one of the sheet's
-module _ (c : goal.In-loop-d) where
-  abbrev top : goal.Start
-  top = c.before.before.before.before
-
-  is-dim : c.loop-d.d < dims c.args.block.now
-  is-dim = omega (arith, c.dims_of-k.ensures, c.loop-d-test.true)
-
-  few : c.loop-d.d < coordinates
-  few = omega (arith, is-dim, top.requires.accepted.head.few_dims)
-
-pub names_dim-requires : goal.names_dim-requires
-names_dim-requires c = let w = (top c).requires in (w.rule, w.accepted.dim_sets _ w.rule.below, is-dim c)
-
-pub interval_of-interval-requires : goal.interval_of-interval-requires
-interval_of-interval-requires c = let l = c.before.before in ((top l).requires, is-dim l)
-
-pub offset_bounds-low-d : goal.offset_bounds-low-d
-offset_bounds-low-d c = omega (arith, few c.before.before.before.before.before)
-
-pub bounds-low-d : goal.bounds-low-d
-bounds-low-d c = let l = c.before.before.before.before.before in omega (arith, few l, l.loop-d.invariant.1)
-
-pub offset_bounds-high-d : goal.offset_bounds-high-d
-offset_bounds-high-d c = omega (arith, few c.before.before.before.before.before)
-
-pub bounds-high-d : goal.bounds-high-d
-bounds-high-d c = let l = c.before.before.before.before.before in omega (arith, few l, l.loop-d.invariant.2)
-
-pub overflow_add-d : goal.overflow_add-d
-overflow_add-d c = omega (arith, few c.before.before)
-
-pub loop-d-smaller : goal.loop-d-smaller
-loop-d-smaller c = omega (arith, c.loop-d-test.true)
+loop-d-init c = rw c.field-area.ensures (sides-none _ _ _ _)
 
 pub loop-d-preserved : goal.loop-d-preserved
-unfolding side_forbids
 loop-d-preserved c =
-    let l = c.before.before in
-    let i = l.loop-d.invariant in
-    let d = l.loop-d.d in
-    let s = top l in
-    let x = axis s.args.block.now (is-dim l) in
+    let s = c.loop-d.invariant in
     elim c.if-names_dim.branch [
-      | then-names_dim w ↦
-          let f = w.interval_of-interval.ensures in
-          let from = near-back f.from_within in
-          let to = near-back f.to_within in (
-            omega (arith, l.loop-d-test.true),
-            rw w.low-is (simp length-set i.1),
-            rw w.high-is (simp length-set i.2),
-            rw (w.low-is, w.high-is) (fills-set _ i.3 (within_by from f.from_within) (within_by to f.to_within) (few l) x i.1 i.2
-                (λ p. ap₂ (λ (y z : ℤ). within y z (word p d)) (from ∙ f.from) (to ∙ f.to)
-                ∙ sym (implies-in _ (sym c.names_dim.ensures ∙ w.if-names_dim.true)))),
-          )
-      | else-names_dim w ↦ (
-        omega (arith, l.loop-d-test.true),
-        rw w.low-is i.1,
-        rw w.high-is i.2,
-        rw (w.low-is, w.high-is) (fills-skip _ i.3 (λ p. implies-out _ (sym c.names_dim.ensures ∙ w.if-names_dim.false))),
-      )
+      | then-names_dim w ↦ rw w.area-is (sides-set _ _ _ _ s c.requires.accepted (omega arith) (sym c.names_dim.ensures ∙ w.if-names_dim.true)
+          w.interval_of-x.ensures)
+      | else-names_dim w ↦ rw w.area-is (sides-skip _ _ _ _ s (sym c.names_dim.ensures ∙ w.if-names_dim.false))
     ]
 
 pub returns : goal.returns
-unfolding solids_forbid
-returns c =
-    let q : c.loop-d.d ≡ dims c.args.block.now = omega (arith, c.dims_of-k.ensures, c.loop-d.invariant.0, c.loop-d-test.false) in
-    rw q at c.loop-d.invariant.3.cuts
+returns c = sides-all _ _ _ _ (omega arith) c.loop-d.invariant

@@ -1,86 +1,33 @@
--- `pair::pair_forbids` meets its contract: so far every dimension passed is forbidden. Assumes nothing.
-use mathlib.Core.Path.{◌≡◌, sym, ap, ◌∙◌}
-use mathlib.Core.Bool.{Bool}
-use Prim.Native.Nat.{ℕ, ◌<◌}
+-- `pair::pair_forbids` meets its contract: the test passes in each dimension past the sheet's. Assumes nothing.
+use mathlib.Core.Path.{◌≡◌, ap, ◌∙◌}
+use mathlib.Core.Logic.{⊎_elim}
+use mathlib.Core.Bool.{Bool, ◌||◌}
+use Prim.Native.Nat.{ℕ, ◌≤◌}
 use native.Mathlib.Omega.{arith}
-use Rattle.integers.specs.Words.{word}
-use Rattle.integers.proofs.Booleans.{not-true, not-false, true-and}
-use Rattle.integers.proofs.Below.{all-zero, all_more, all-false}
-use Rattle.sheet.specs.Layout.{dims}
-use Rattle.points.proofs.Sums.{bits_back}
-use Rattle.forbid.specs.Pair.{side_forbids, solids_forbid}
-use Rattle.forbid.proofs.pair.pair_forbids.Lts as lts
-use Rattle.forbid.proofs.pair.pair_forbids.Reads as reads
-use Rattle.forbid.proofs.pair.pair_forbids.Tie as tie
+use lib.Dec.{leb}
+use borrow.Author.Rules.{rules}
+use borrow.Author.Tests.{tests, leb-true, le-leb}
+use Rattle.integers.specs.Below.{all_below}
+use Rattle.integers.proofs.Booleans.{both_ways, or-true, or_left, or_right}
+use Rattle.integers.proofs.Below.{below_or, all-at, at_all}
+use Rattle.integers.proofs.Scans.{all_in_range}
+use Rattle.points.specs.Area.{coordinates}
+use Rattle.forbid.specs.Pair.{solids_forbid}
+use Rattle.forbid.proofs.Solids.{in_side}
 use Rattle.forbid.proofs.pair.pair_forbids.Goals as goal
 
-abbrev After-side_forbids : Type 0
-After-side_forbids = lts.After-side_forbids tie.the-claims reads.Pre reads.Post goal.the-invariant-loop-d goal.the-decreases-loop-d
-
-abbrev At-loop-d : Type 0
-At-loop-d = lts.At-loop tie.the-claims reads.Pre reads.Post goal.the-invariant-loop-d goal.the-decreases-loop-d
-
--- the dimension at hand is one of the sheet's
-below-dims : (c : goal.Else-d-k) → c.loop-d.d < dims c.args.block.now
-below-dims c = omega (arith, c.dims_of-k.ensures, c.loop-d.invariant.0, c.if-d-k.false)
-
-pub dims_of-k-requires : goal.dims_of-k-requires
-dims_of-k-requires c = c.requires.accepted.head
-
-pub loop-d-init : goal.loop-d-init
-loop-d-init c = (omega arith, all-zero _)
-
-pub returns-then-d-k : goal.returns-then-d-k
-unfolding solids_forbid
-returns-then-d-k c =
-    sym (rw (c.if-d-k.true ∙ c.dims_of-k.ensures) at c.loop-d.invariant.1)
-
-pub offset_bounds-p-d : goal.offset_bounds-p-d
-offset_bounds-p-d c = omega (arith, below-dims c, c.requires.accepted.head.few_dims)
-
-pub bounds-p-d : goal.bounds-p-d
-bounds-p-d c = omega (arith, below-dims c, c.requires.accepted.head.few_dims)
-
-pub side_forbids-requires : goal.side_forbids-requires
-side_forbids-requires c = (c.requires, below-dims c.before)
-
-module _ (c : After-side_forbids) where
-  abbrev l : At-loop-d
-  l = c.before.before.before.before
-
-  abbrev s : goal.Start
-  s = l.before.before
-
-  -- the test of one dimension
-  abbrev test : ℕ → Bool
-  test e = side_forbids s.args.block.now s.args.table.now s.args.outline.now s.args.pair e (word s.args.p e)
-
-  tested : c.side_forbids.result ≡ test l.loop-d.d
-  tested =
-      c.side_forbids.ensures
-      ∙ ap (side_forbids _ _ _ _ _) (bits_back {z = word s.args.p l.loop-d.d} c.side_forbids-arg-1.given)
-
-pub returns-then-not-side_forbids : goal.returns-then-not-side_forbids
-unfolding solids_forbid
-returns-then-not-side_forbids c =
-    let b = c.before in
-    sym (all-false (test b) (l b).loop-d.d (below-dims b.before.before) (sym (tested b) ∙ not-true c.if-not-side_forbids.true-raw))
-
-pub overflow_add-d : goal.overflow_add-d
-overflow_add-d c = omega (arith, c.loop-d-test.true)
-
-pub loop-d-smaller : goal.loop-d-smaller
-loop-d-smaller c = omega (arith, below-dims c.before.before.before)
-
-pub loop-d-preserved : goal.loop-d-preserved
-loop-d-preserved c =
-    let b = c.before in
-    let here = sym (tested b) ∙ not-false c.if-not-side_forbids.false-raw in
-    (omega (arith, below-dims b.before.before), all_more (l b).loop-d.d (test b) ∙ true-and (l b).loop-d.invariant.1 here)
+-- tests below n of which those from k on pass
+all-past : (f : ℕ → Bool) {k n : ℕ} → k ≤ n → all_below n (λ d. leb k d || f d) ≡ all_below k f
+all-past f {k} {n} h = both_ways _ _
+    (λ t. at_all (λ d l. ⊎_elim (λ e. absurd (let p : k ≤ d = leb-true k d e in omega arith)) (λ e. e)
+    (or-true (all-at (λ d. leb k d || f d) t d (omega arith)))))
+    (λ t. at_all (λ d l. ⊎_elim (λ b. or_right (leb k d) (all-at f t d b)) (λ b. or_left (f d) (le-leb k d b)) (below_or d k)))
 
 pub returns : goal.returns
 unfolding solids_forbid
 returns c =
+    let a = c.args in
+    let f = λ (d : ℕ). in_side a.block.now a.table.now a.outline.now a.pair d a.p in
     let few = c.requires.accepted.head.few_dims in
-    let q : c.loop-d.d ≡ dims c.args.block.now = omega (arith, c.dims_of-k.ensures, c.loop-d.invariant.0, few, c.loop-d-test.false) in
-    sym (rw q at c.loop-d.invariant.1)
+    all_in_range coordinates (λ d. leb c.dims_of-k.result d || f d) _ _ _ c.all.ensures.ran (search rules) (λ x b q k. search (rules, tests))
+    ∙ all-past f (omega (arith, few, c.dims_of-k.ensures)) ∙ ap (λ (n : ℕ). all_below n f) c.dims_of-k.ensures

@@ -6,24 +6,17 @@ use Rattle.forbid.proofs.Regions.{missed, forbids-same}
 use Rattle.forbid.proofs.Rows.{itself-none, unnamed-none, named_set}
 use Rattle.forbid.proofs.row.row_region.Goals as goal
 
-pub none-requires : goal.none-requires
-none-requires c = tt
-
 pub returns-then-other-i : goal.returns-then-other-i
-returns-then-other-i c = missed (itself-none _ _ _ _ _ _ (sym c.if-other-i.true) _) c.none.ensures
+returns-then-other-i c = missed (itself-none _ _ _ _ _ _ (sym c.if-other-i.true) _)
 
 pub names_row-requires : goal.names_row-requires
 names_row-requires c =
     let w = c.requires in
     (w.rule, w.at_point.accepted.row_sets _ w.rule.below, row-bit w.row)
 
-pub none-requires-then-not-names_row : goal.none-requires-then-not-names_row
-none-requires-then-not-names_row c = tt
-
 pub returns-then-not-names_row : goal.returns-then-not-names_row
 returns-then-not-names_row c =
     missed (unnamed-none _ _ _ _ _ _ (λ e. c.if-other-i.false (sym e)) (sym c.names_row.ensures ∙ not-true c.if-not-names_row.true-raw) _)
-    c.none-then-not-names_row.ensures
 
 pub set_region-requires : goal.set_region-requires
 set_region-requires c = c.requires

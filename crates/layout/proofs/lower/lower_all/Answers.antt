@@ -1,94 +1,68 @@
 -- `layout::lower::lower_all` meets its contract: the numbers one after another. Assumes nothing.
-use mathlib.Core.Path.{◌≡◌, sym, ap, ap₂, ◌∙◌, subst}
+use mathlib.Core.Path.{◌≡◌, ap, ap₂, ◌∙◌, sym, subst}
 use mathlib.Core.List.{List}
 use Prim.Native.Nat.{ℕ, suc, ◌+◌, ◌*◌, ◌≤◌}
 use native.Mathlib.Nat.{mul-le-mul}
 use native.Mathlib.Numerals.{add-one}
 use native.Mathlib.Omega.{arith}
 use lib.IntN.{ℤ}
+use Rattle.sheet.specs.Layout.{axes, rows}
 use Rattle.sheet.specs.FirstLayout.{per_row, numbers}
 use Rattle.sheet.proofs.Accepted.{accepted-head}
 use Rattle.sheet.proofs.Precedes.{numbers-same}
+use Rattle.layout.specs.Search.{Small}
 use Rattle.layout.specs.Lowering.{Lowered}
 use Rattle.layout.proofs.Searches.{small-part}
 use Rattle.layout.proofs.Lowers.{lowered-start, lowered-then}
 use Rattle.layout.proofs.lower.lower_all.Goals as goal
 
+-- how many numbers there are, of n rows and k dimensions
+few-axes : {block t : List ℤ} {k : ℕ} → Small block t → k ≡ axes block → k ≤ 4
+few-axes {block} {t} w e = let h = (accepted-head block t w.accepted).few_axes in omega arith
+
+count : (block t : List ℤ) {n k : ℕ} → n ≡ rows block t → k ≡ axes block → n * (k + 1) ≡ numbers block t
+unfolding numbers per_row
+count block t {k = k} e f = ap₂ ◌*◌ e (add-one k ∙ ap suc f)
+
+few : {block t : List ℤ} {n k : ℕ} → Small block t → n ≡ rows block t → k ≡ axes block → n * (k + 1) ≤ 40
+few {n = n} {k = k} w e f =
+    let a = few-axes w f in
+    let p : n ≤ 8 = omega (arith, w.few) in
+    let q : k + 1 ≤ 5 = omega arith in
+    mul-le-mul p q
+
 pub rows_of-requires : goal.rows_of-requires
-rows_of-requires c = accepted-head c.args.block.now c.args.rest.now c.requires.0.accepted
+rows_of-requires c = accepted-head _ _ c.requires.0.accepted
 
 pub axes_of-requires : goal.axes_of-requires
-axes_of-requires c = accepted-head c.args.block.now c.args.rest.now c.requires.0.accepted
-
--- how many numbers there are
-module _ (c : goal.After-axes_of) where
-  abbrev s : goal.Start
-  s = c.before.before
-
-  abbrev block : List ℤ
-  block = s.args.block.now
-
-  abbrev t : List ℤ
-  t = s.args.rest.now
-
-  few-axes : c.axes_of.result ≤ 4
-  few-axes = let h = (accepted-head block t s.requires.0.accepted).few_axes in omega (arith, h, c.axes_of.ensures)
-
-  few-rows : c.rows_of.result ≤ 8
-  few-rows = omega (arith, s.requires.0.few, c.rows_of.ensures)
-
-  count : c.rows_of.result * (c.axes_of.result + 1) ≡ numbers block t
-  unfolding numbers per_row
-  count = ap₂ ◌*◌ c.rows_of.ensures (add-one c.axes_of.result ∙ ap suc c.axes_of.ensures)
-
-  few : c.rows_of.result * (c.axes_of.result + 1) ≤ 40
-  few = let a = few-axes in let k : c.axes_of.result + 1 ≤ 5 = omega arith in mul-le-mul few-rows k
+axes_of-requires c = accepted-head _ _ c.requires.0.accepted
 
 pub overflow_add-count : goal.overflow_add-count
-overflow_add-count c = omega (arith, few-axes c)
+overflow_add-count c = omega (arith, few-axes c.requires.0 c.axes_of.ensures)
 
 pub overflow_mul-count : goal.overflow_mul-count
-overflow_mul-count c = omega (arith, few c)
+overflow_mul-count c = omega (arith, few c.requires.0 c.rows_of.ensures c.axes_of.ensures)
 
 pub loop-m-init : goal.loop-m-init
-loop-m-init c =
-    let x = s c in
-    (lowered-start (block c) (t c) x.args.best.now x.requires.0.accepted x.requires.1, omega arith)
+loop-m-init c = lowered-start _ _ _ c.requires.0.accepted c.requires.1
 
 pub lower-requires : goal.lower-requires
 lower-requires c =
-    let a = c.before.before.before.before.before in
-    let x = c.loop-m.invariant.0 in
+    let x = c.loop-m.invariant in
+    let many = count _ _ c.rows_of.ensures c.axes_of.ensures in
+    let as_many = numbers-same c.args.block.now c.loop-m.rest c.args.rest.now x.part.inside.as_long in
     record {
-      small = small-part (block a) (s a).requires.0 x.part;
-      below = rw (numbers-same (block a) c.loop-m.rest (t a) x.part.inside.as_long, sym (count a)) c.loop-m-test.true;
+      small = small-part _ c.requires.0 x.part;
+      below = omega (arith, as_many, many, c.loop-m-test.true);
       placed = x.placed;
       agree = x.agree;
     }
 
-pub overflow_add-m : goal.overflow_add-m
-overflow_add-m c =
-    omega (arith, c.loop-m-test.true, few c.before.before.before.before.before.before.before.before)
-
-pub loop-m-smaller : goal.loop-m-smaller
-loop-m-smaller c = omega (arith, c.loop-m-test.true)
-
 pub loop-m-preserved : goal.loop-m-preserved
-loop-m-preserved c = (
-  rw (add-one c.loop-m.m) (lowered-then (block c.before.before.before.before.before.before.before.before) c.loop-m.invariant.0 c.lower.ensures),
-  omega (arith, c.loop-m-test.true),
-)
-
-pub shape_of-rest : goal.shape_of-rest
-shape_of-rest c = c.loop-m.invariant.0.part.inside.as_long
-
-pub shape_of-best : goal.shape_of-best
-shape_of-best c =
-    let x = c.loop-m.invariant.0 in
-    x.placed.inside.as_long ∙ x.part.inside.as_long ∙ sym (s c.before.before).requires.1.inside.as_long
+loop-m-preserved c = rw (add-one c.loop-m.m) (lowered-then c.args.block.now c.loop-m.invariant c.lower.ensures)
 
 pub returns : goal.returns
 returns c =
-    let a = c.before.before in
-    let e : c.loop-m.m ≡ numbers (block a) (t a) = omega (arith, c.loop-m.invariant.1, c.loop-m-test.false, count a) in
-    subst (λ (m : ℕ). Lowered (block a) m (t a) (s a).args.best.now c.loop-m.rest c.loop-m.best) e c.loop-m.invariant.0
+    let many = count _ _ c.rows_of.ensures c.axes_of.ensures in
+    let e : c.loop-m.m ≡ numbers c.args.block.now c.args.rest.now = omega (arith, many, c.loop-m.auto.m-end, c.loop-m-test.false) in
+    subst (λ (m : ℕ). Lowered c.args.block.now m c.args.rest.now c.args.best.now c.loop-m.rest c.loop-m.best) e c.loop-m.invariant

@@ -10,4 +10,4 @@ pub returns : goal.returns
 returns c =
     let digits = c.fill_digits-i in
     let long : length digits.new.buf ≡ 20 = digits.auto.buf in
-    put_as (part-all digits.new.buf digits.result long ∙ digits.ensures.1 ∙ sym (shown-natural _)) c.put_bytes.ensures
+    put_as (part-all digits.new.buf digits.result long ∙ digits.ensures.1 ∙ sym (shown-natural _)) c.put_all.ensures

@@ -25,15 +25,15 @@ returns-then-flip c k h =
 pub overflow_sub-z : goal.overflow_sub-z
 overflow_sub-z c = diff-fits (bnd c.requires.1) (num 1) tt
 
-pub within-requires-2 : goal.within-requires-2
-within-requires-2 c =
+pub within-requires-else-flip : goal.within-requires-else-flip
+within-requires-else-flip c =
     record {
       below = c.requires.0;
       low_near = record { above = omega arith; below = omega arith };
       high_near = (sum_is (bnd c.requires.1 -ʷ num 1) tt refl).1;
     }
 
-pub returns : goal.returns
-returns c k h =
+pub returns-else-flip : goal.returns-else-flip
+returns-else-flip c k h =
     rw c.if-flip.false (cuts-same (λ p. ap (λ (y : ℤ). within (minus reach) y (word p c.args.d)) (exact (bnd c.requires.1 -ʷ num 1) tt))
-    (c.within-2.ensures k h))
+    (c.within-else-flip.ensures k h))

@@ -1,129 +1,73 @@
 -- `widen::widen` meets its contract: the ends passed have taken in the shape. Assumes nothing.
-use mathlib.Core.Path.{◌≡◌, sym, ◌∙◌, subst}
-use mathlib.Core.List.{List}
+use mathlib.Core.Path.{◌≡◌, ◌∙◌}
 use mathlib.Core.Bool.{Bool, true, false}
-use Prim.Native.Nat.{ℕ, ◌+◌, ◌≤◌, ◌<◌, ◌-◌}
+use mathlib.Core.List.{[], ◌∷◌}
+use Prim.Native.Nat.{◌<◌, ◌-◌}
 use native.Mathlib.Omega.{arith}
-use lib.Dec.{leb}
-use lib.IntN.{ℤ}
-use lib.ListN.{length}
+use borrow.Author.Count.{below_more}
+use lib.ListN.{get_or}
 use Rattle.sheet.specs.Layout.{axes}
-use Rattle.points.specs.declared.Area.{Area}
-use Rattle.points.specs.Area.{coordinates, area_words}
-use Rattle.nearby.specs.Listing.{Listed}
-use Rattle.narrow.specs.Ends.{end_number, Widening}
-use Rattle.narrow.proofs.Taking.{edges_more}
-use Rattle.narrow.proofs.widen.widen.Lts as lts
-use Rattle.narrow.proofs.widen.widen.Reads as reads
-use Rattle.narrow.proofs.widen.widen.Tie as tie
+use Rattle.points.specs.Ends.{end_at}
+use Rattle.narrow.specs.Ends.{Edge}
+use Rattle.narrow.proofs.Taking.{side_more}
 use Rattle.narrow.proofs.widen.widen.Goals as goal
-
-abbrev After-axes_of-k : Type 0
-After-axes_of-k = lts.After-axes_of tie.the-claims reads.Pre reads.Post goal.the-invariant-loop-e goal.the-decreases-loop-e
-
-abbrev After-put_area : Type 0
-After-put_area = lts.After-put_area tie.the-claims reads.Pre reads.Post goal.the-invariant-loop-e goal.the-decreases-loop-e
-
-abbrev After-dim_of-d : Type 0
-After-dim_of-d = lts.After-dim_of tie.the-claims reads.Pre reads.Post goal.the-invariant-loop-e goal.the-decreases-loop-e
-
--- no more axes than coordinates
-few : (c : After-axes_of-k) → c.axes_of-k.result ≤ coordinates
-few c = omega (arith, c.axes_of-k.ensures, c.requires.0.subject.accepted.head.few_axes)
-
--- at the loop's head
-module _ (l : goal.At-loop-e) where
-  abbrev put : After-put_area
-  put = l.before.before
-
-  abbrev at-axes : After-axes_of-k
-  at-axes = put.before.before
-
-  abbrev s : goal.Start
-  s = at-axes.before
-
--- the dimension of the end at hand is an axis, and its number is the end's
-module _ (c : After-dim_of-d) where
-  abbrev l : goal.At-loop-e
-  l = c.before.before
-
-  abbrev d : ℕ
-  d = c.dim_of-d.result
-
-  below-axes : d < axes (s l).args.block.now
-  below-axes = omega (arith, (at-axes l).axes_of-k.ensures, c.dim_of-d.ensures.0)
-
-  is_number : end_number (leb (at-axes l).axes_of-k.result l.loop-e.e) (axes (s l).args.block.now) d ≡ l.loop-e.e
-  is_number =
-      subst (λ (n : ℕ). end_number (leb (at-axes l).axes_of-k.result l.loop-e.e) n d ≡ l.loop-e.e) (at-axes l).axes_of-k.ensures
-      c.dim_of-d.ensures.1
-
--- no number is past the ends of both sides
-number-below : (flip : Bool) (k d e : ℕ) → d < k → k + k ≤ e → end_number flip k d < e
-number-below true k d e h g = omega (arith, h, g)
-number-below false k d e h g = omega (arith, h, g)
-
--- the cut box as a run of words, other known areas, and other ends
-abbrev Widens : goal.Start → List ℤ → Area → List ℤ → Type 0
-Widens s known cut ends =
-    let a = s.args in
-    Widening a.block.now a.table.now a.outline.now a.suspects.now known a.nearby cut (a.nearby.s - 1) ends
-
-widening : (s : goal.Start) {known ends : List ℤ} {cut : Area} → let a = s.args in
-    cut ≡ a.cut → Listed a.block.now a.table.now a.nearby a.suspects.now known → length ends ≡ area_words
-    → Widens s known cut ends
-widening s {known} {ends} is listed long =
-    let w = s.requires.0 in
-    subst (λ (cut : Area). Widens s known cut ends) (sym is)
-    (record { subject = w.subject; listed = listed; next = w.next; held = w.held; box = w.box; filled = w.filled; long = long })
 
 pub axes_of-k-requires : goal.axes_of-k-requires
 axes_of-k-requires c = c.requires.0.subject.accepted.head
 
-pub loop-e-init : goal.loop-e-init
-loop-e-init c =
-    let p = c.requires in
-    (omega arith, p.0.long, p.1, λ flip d h l. absurd (omega (arith, l)), p.0.listed)
+pub loop-flip-init : goal.loop-flip-init
+loop-flip-init c =
+    record { edges = c.requires.1; sides = λ j h. absurd (omega arith); listed = c.requires.0.listed }
 
-pub overflow_add-k : goal.overflow_add-k
-overflow_add-k c = omega (arith, few (at-axes c))
-
-pub dim_of-d-requires : goal.dim_of-d-requires
-dim_of-d-requires c = c.loop-e-test.true
+pub loop-d-init : goal.loop-d-init
+loop-d-init c =
+    let w = c.loop-flip.invariant in
+    record { edges = w.edges; sides = w.sides; side = λ d h. absurd (omega arith); listed = w.listed }
 
 pub widen_end-requires : goal.widen_end-requires
 widen_end-requires c =
-    let m = c.before.before.before in
-    let w = (l m).loop-e in
-    (widening (s (l m)) (put (l m)).put_area.ensures.1 w.invariant.4 w.invariant.1, below-axes m, w.invariant.2 _ (d m) (below-axes m))
-
-pub overflow_add-e : goal.overflow_add-e
-overflow_add-e c =
-    omega (arith, few (at-axes c.before.before.before.before.before.before.before), c.loop-e-test.true)
-
-pub loop-e-smaller : goal.loop-e-smaller
-loop-e-smaller c = omega (arith, c.loop-e-test.true)
-
-pub loop-e-preserved : goal.loop-e-preserved
-loop-e-preserved c =
-    let after = c.widen_end.ensures in
-    let m = c.before.before.before.before.before in
-    let w = (l m).loop-e.invariant in
-    let a = (s (l m)).args in (
-      omega (arith, m.loop-e-test.true),
-      c.ends-1.given ∙ w.1,
-      λ f o h. after.0 (a.nearby.s - 1) f o h (w.2 f o h),
-      edges_more a.block.now a.table.now a.nearby.i.number a.nearby.s (l m).loop-e.e _ (d m) (below-axes m) (is_number m)
-          w.3 after.0 after.1,
-      after.2,
+    let w = c.requires.0 in
+    let v = c.loop-d.invariant in
+    let h : c.loop-d.d < axes c.args.block.now = omega (arith, c.axes_of-k.ensures, c.loop-d-test.true) in (
+      rw c.put_area.ensures.1 (record {
+        subject = w.subject;
+        listed = v.listed;
+        next = w.next;
+        held = w.held;
+        box = w.box;
+        filled = w.filled;
+        long = c.loop-d.auto.ends ∙ c.loop-flip.auto.ends ∙ w.long;
+      }),
+      h,
+      v.edges _ _ h,
     )
 
-pub shape_of-ends : goal.shape_of-ends
-shape_of-ends c = c.loop-e.invariant.1 ∙ sym (s c.before).requires.0.long
+pub loop-d-preserved : goal.loop-d-preserved
+loop-d-preserved c =
+    let v = c.loop-d.invariant in
+    let after = c.widen_end.ensures in
+    let h : c.loop-d.d < axes c.args.block.now = omega (arith, c.axes_of-k.ensures, c.loop-d-test.true) in
+    record {
+      edges = λ f d g. after.0 (c.args.nearby.s - 1) f d g (v.edges f d g);
+      sides = λ j l d g. after.0 c.args.nearby.s (get_or (false ∷ true ∷ []) j false) d g (v.sides j l d g);
+      side = side_more c.args.block.now c.args.table.now c.args.nearby.i.number c.args.nearby.s c.loop-d.d
+          (get_or (false ∷ true ∷ []) c.loop-flip.flip-index false) h v.side after.0 after.1;
+      listed = after.2;
+    }
+
+pub loop-flip-preserved : goal.loop-flip-preserved
+loop-flip-preserved c =
+    let v = c.loop-d.invariant in
+    let q : c.loop-d.d ≡ axes c.args.block.now = omega (arith, c.axes_of-k.ensures, c.loop-d-test.false) in
+    record {
+      edges = v.edges;
+      sides = below_more _ _ v.sides (rw q at v.side);
+      listed = v.listed;
+    }
 
 pub returns : goal.returns
-returns c flip o h =
-    let w = c.before in
-    let n = axes (s w).args.block.now in
-    let past : n + n ≤ w.loop-e.e = omega (arith, (at-axes w).axes_of-k.ensures, c.loop-e-test.false) in
-    w.loop-e.invariant.3 flip o h (number-below flip n o w.loop-e.e h past)
+returns c flip d h = both flip
+  where
+    both : (f : Bool) → Edge c.args.block.now c.args.table.now c.args.nearby.i.number f c.args.nearby.s d (end_at f d c.loop-flip.ends)
+    both true = c.loop-flip.invariant.sides 1 (omega arith) d h
+    both false = c.loop-flip.invariant.sides 0 (omega arith) d h

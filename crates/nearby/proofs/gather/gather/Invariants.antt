@@ -1,9 +1,6 @@
 -- `nearby::gather::gather` meets its contract: so far what the rules passed forbid is listed, and none that counts is left where the loop ends.
 -- Assumes nothing.
-use mathlib.Core.Path.{◌≡◌}
 use mathlib.Core.Bool.{◌&&◌}
-use Prim.Native.Nat.{◌-◌, ◌≤◌}
-use lib.ListN.{length}
 use Rattle.integers.specs.Below.{any_below}
 use Rattle.integers.specs.Bits.{bit}
 use Rattle.integers.specs.Words.{word}
@@ -14,11 +11,7 @@ use Rattle.nearby.proofs.gather.gather.Given as goal
 
 abbrev pub invariant-loop-r : goal.invariant-loop-r
 invariant-loop-r l =
-    (l.r ≤ l.n) × Open l.block l.table l.i.number l.s l.suspects l.known l.found
+    Open l.block l.table l.i.number l.s l.suspects l.known l.count
     × Grows l.block l.table l.i.number l.s
     (λ p. any_below l.r (λ m. bit (word l.outline rules_at) m && rule_forbids l.block l.table l.i.number l.s m p))
-    l.initial.suspects l.initial.known l.initial.found l.suspects l.known l.found
-    × (length l.suspects ≡ length l.initial.suspects)
-
-abbrev pub decreases-loop-r : goal.decreases-loop-r
-decreases-loop-r l = l.n - l.r
+    l.initial.suspects l.initial.known l.initial.count l.suspects l.known l.count

@@ -1,13 +1,12 @@
--- `outline::solid::span` meets its contract: the extent is that of the shape's boxes before b, the next one. Assumes nothing.
-use mathlib.Core.Path.{◌≡◌}
-use mathlib.Core.Bool.{true}
-use Prim.Native.Nat.{◌-◌, ◌≤◌, ◌<◌}
-use Rattle.sheet.specs.Layout.{boxes, is_of}
+-- `outline::solid::span` meets its contract: the extent is that of the shape's boxes before the next one. Assumes nothing.
+use Prim.Native.Nat.{◌-◌}
+use Rattle.sheet.specs.Layout.{boxes}
 use Rattle.outline.specs.Solids.{Spans}
+use Rattle.outline.proofs.Chains.{upto, Next}
 use Rattle.outline.proofs.solid.span.Given as goal
 
-abbrev pub invariant-loop-b : goal.invariant-loop-b
-invariant-loop-b l = (l.b ≤ boxes l.block) × (l.b < boxes l.block → is_of l.block l.b l.s ≡ true) × Spans l.block l.s l.d l.b l.hull
+abbrev pub invariant-loop-next : goal.invariant-loop-next
+invariant-loop-next l = Next l.block l.s l.next × Spans l.block l.s l.d (upto l.block l.next) l.hull
 
-abbrev pub decreases-loop-b : goal.decreases-loop-b
-decreases-loop-b l = boxes l.block - l.b
+abbrev pub decreases-loop-next : goal.decreases-loop-next
+decreases-loop-next l = boxes l.block - upto l.block l.next

@@ -1,7 +1,7 @@
 -- `judge::row_forbids` meets its contract: a row that is named forbids what its one shape does. Assumes nothing.
 use mathlib.Core.Path.{◌≡◌, sym, ◌∙◌}
 use mathlib.Core.Bool.{true}
-use Rattle.integers.proofs.Booleans.{not-true, not-false}
+use Rattle.std.proofs.Common.{rules}
 use Rattle.sheet.specs.Layout.{names_row}
 use Rattle.sheet.specs.Accepted.{Boxed}
 use Rattle.sheet.proofs.Fixed.{Row}
@@ -19,7 +19,7 @@ names_row-requires c =
 
 pub returns-then-not-names_row : goal.returns-then-not-names_row
 unfolding named_forbids
-returns-then-not-names_row c = rw (sym c.names_row.ensures ∙ not-true c.if-not-names_row.true-raw)
+returns-then-not-names_row c = rw (sym c.names_row.ensures ∙ c.if-not-names_row.true)
 
 pub lowest_shape-t-requires : goal.lowest_shape-t-requires
 lowest_shape-t-requires c = let w = c.requires in (w.0.sheet.table, w.2)
@@ -61,19 +61,19 @@ hulls_clash-requires c = (versus c, other c)
 
 -- the rule names the row
 named : (x : goal.After-lowest_shape-t) → let a = x.args in names_row a.block.now a.r.number a.j.number ≡ true
-named x = sym x.names_row.ensures ∙ not-false x.if-not-names_row.false-raw
+named x = sym x.names_row.ensures ∙ x.if-not-names_row.false
 
-pub returns-then-not-hulls_clash : goal.returns-then-not-hulls_clash
+pub shapes_region-requires : goal.shapes_region-requires
+shapes_region-requires c = let x = c.before.before in (versus x, other x)
+
+pub returns-then-hulls_clash : goal.returns-then-hulls_clash
 unfolding named_forbids
-returns-then-not-hulls_clash c =
+returns-then-hulls_clash c =
+    let x = c.before.before.before.before.before in
+    rw (named x) ((search rules) ∙ (c.shapes_region.ensures _).hit ∙ sole-set _ _ (sole x) _ _ _ _)
+
+pub returns-else-hulls_clash : goal.returns-else-hulls_clash
+unfolding named_forbids
+returns-else-hulls_clash c =
     let x = c.before.before in
-    rw (named x) (sym (sym (sole-set _ _ (sole x) _ _ _ _) ∙ c.hulls_clash.ensures _ (not-true c.if-not-hulls_clash.true-raw)))
-
-pub shapes_region-x-requires : goal.shapes_region-x-requires
-shapes_region-x-requires c = let x = c.before.before in (versus x, other x)
-
-pub returns : goal.returns
-unfolding named_forbids
-returns c =
-    let x = c.before.before.before in
-    rw (named x) ((c.shapes_region-x.ensures _).hit ∙ sole-set _ _ (sole x) _ _ _ _)
+    rw (named x, c.if-hulls_clash.false) (sym (sym (sole-set _ _ (sole x) _ _ _ _) ∙ c.hulls_clash.ensures _ c.if-hulls_clash.false))

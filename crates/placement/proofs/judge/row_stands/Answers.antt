@@ -1,5 +1,5 @@
 -- `judge::row_stands` meets its contract: the cut box holds the points of the ranges at which every room rule holds. Assumes nothing.
-use mathlib.Core.Path.{◌≡◌, refl, sym, ap, ◌∙◌}
+use mathlib.Core.Path.{◌≡◌, sym, ap, ◌∙◌}
 use mathlib.Core.Bool.{◌&&◌}
 use Prim.Native.Nat.{ℕ}
 use native.Mathlib.Omega.{arith}
@@ -12,13 +12,8 @@ use Rattle.points.proofs.Areas.{in_small}
 use Rattle.placement.specs.Before.{SoleShape}
 use Rattle.placement.proofs.OneShape.{lowest-sole}
 use Rattle.placement.proofs.Earlier.{row-fixed, bad-cut, bad-before}
-use Rattle.placement.proofs.judge.row_stands.Lts as lts
-use Rattle.placement.proofs.judge.row_stands.Reads as reads
-use Rattle.placement.proofs.judge.row_stands.Tie as tie
 use Rattle.placement.proofs.judge.row_stands.Goals as goal
-
-abbrev After-holds : Type 0
-After-holds = lts.After-holds tie.the-claims reads.Pre reads.Post
+use Rattle.placement.proofs.judge.row_stands.Goals.{After-holds}
 
 module _ (s : goal.Start) where
   row : Row s.args.block.now s.args.table.now s.args.i.number
@@ -68,16 +63,6 @@ cut_box-cut-requires c =
 pub holds-requires : goal.holds-requires
 holds-requires c = omega (arith, c.axes_of-k.ensures, c.requires.0.accepted.head.few_axes)
 
-pub returns-then-not-holds : goal.returns-then-not-holds
-returns-then-not-holds c =
-    let h = c.before in
-    let s = top h in
-    let w = s.requires.0 in
-    record {
-      clear = λ e. clash e refl;
-      bad = λ e. bad-cut _ _ (row s) (sole h) _ (found h).origin-p.ensures (boxed h ∙ not-true c.if-not-holds.true-raw);
-    }
-
 pub is_forbidden-requires : goal.is_forbidden-requires
 is_forbidden-requires c =
     let h = c.before in
@@ -88,15 +73,15 @@ is_forbidden-requires c =
       sheet = w;
       row = i;
       shape = w.table.boxed _ _ i.from i.upto (found h).lowest_shape-s.ensures.held;
-      near = in_small _ _ h.cut_box-cut.ensures.small (in_cut h ∙ not-false c.if-not-holds.false-raw);
+      near = in_small _ _ h.cut_box-cut.ensures.small (in_cut h ∙ c.if-holds.true);
     }
 
-pub returns : goal.returns
-returns c =
+pub returns-then-holds : goal.returns-then-holds
+returns-then-holds c =
     let h = c.before.before in
     let s = top h in
     let w = s.requires.0 in
-    let inside = and-true (boxed h ∙ not-false c.if-not-holds.false-raw) in
+    let inside = and-true (boxed h ∙ c.if-holds.true) in
     record {
       clear = λ e. record {
         shape = (found h).lowest_shape-s.result;
@@ -109,4 +94,13 @@ returns c =
       };
       bad = λ e. bad-before _ _ (row s) (sole h) _ (found h).origin-p.ensures
           (sym c.is_forbidden.ensures ∙ not-false e);
+    }
+
+pub returns-else-holds : goal.returns-else-holds
+returns-else-holds c =
+    let h = c.before in
+    let s = top h in
+    record {
+      clear = λ e. clash e c.if-holds.false;
+      bad = λ e. bad-cut _ _ (row s) (sole h) _ (found h).origin-p.ensures (boxed h ∙ e);
     }

@@ -1,11 +1,7 @@
 -- `Area::field` meets its contract: the repeats are the definition's. Assumes nothing.
 use mathlib.Core.Path.{refl}
-use Rattle.integers.proofs.Ints.{ints}
 use Rattle.points.specs.Area.{field_area}
 use Rattle.points.proofs.Area.field.Goals as goal
-
-pub overflow_sub-low : goal.overflow_sub-low
-overflow_sub-low c = omega ints
 
 pub returns : goal.returns
 unfolding field_area

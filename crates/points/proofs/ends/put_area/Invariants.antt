@@ -1,7 +1,6 @@
 -- `points::ends::put_area` meets its contract: so far the bounds of the dimensions passed are written. Assumes nothing.
 use mathlib.Core.Path.{◌≡◌}
-use Prim.Native.Nat.{ℕ, ◌+◌, ◌-◌, ◌≤◌, ◌<◌}
-use lib.ListN.{length}
+use Prim.Native.Nat.{ℕ, ◌+◌, ◌<◌}
 use Rattle.integers.specs.Words.{word}
 use Rattle.points.specs.Area.{coordinates, area_words}
 use Rattle.points.specs.Ends.{SameBut}
@@ -9,8 +8,6 @@ use Rattle.points.proofs.ends.put_area.Given as goal
 
 abbrev pub invariant-loop-d : goal.invariant-loop-d
 invariant-loop-d l =
-    (l.d ≤ coordinates) × (length l.low ≡ coordinates) × (length l.high ≡ coordinates) × SameBut l.at area_words l.initial.words l.words
-    × ((e : ℕ) → e < l.d → word l.words (l.at + e) ≡ word l.low e) × ((e : ℕ) → e < l.d → word l.words (l.at + coordinates + e) ≡ word l.high e)
-
-abbrev pub decreases-loop-d : goal.decreases-loop-d
-decreases-loop-d l = coordinates - l.d
+    SameBut l.at area_words l.initial.words l.words
+    × ((e : ℕ) → e < l.d → word l.words (l.at + e) ≡ word l.area.low e)
+    × ((e : ℕ) → e < l.d → word l.words (l.at + coordinates + e) ≡ word l.area.high e)

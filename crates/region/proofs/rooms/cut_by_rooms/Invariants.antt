@@ -1,7 +1,4 @@
 -- `rooms::cut_by_rooms` meets its contract: so far the area is cut by each rule passed. Assumes nothing.
-use mathlib.Core.Path.{◌≡◌}
-use Prim.Native.Nat.{◌≤◌, ◌-◌}
-use lib.ListN.{length}
 use Rattle.integers.specs.Below.{all_below}
 use Rattle.sheet.specs.Layout.{axes}
 use Rattle.points.specs.Area.{Cuts, area_of}
@@ -10,8 +7,4 @@ use Rattle.region.proofs.rooms.cut_by_rooms.Given as goal
 
 abbrev pub invariant-loop-r : goal.invariant-loop-r
 invariant-loop-r l =
-    (l.r ≤ l.n) × (length l.ends ≡ length l.initial.ends) × Cuts (axes l.block) (area_of l.initial.ends) (area_of l.ends)
-    (λ p. all_below l.r (λ m. room_holds l.block l.i l.s m p))
-
-abbrev pub decreases-loop-r : goal.decreases-loop-r
-decreases-loop-r l = l.n - l.r
+    Cuts (axes l.block) (area_of l.initial.ends) (area_of l.ends) (λ p. all_below l.r (λ m. room_holds l.block l.i l.s m p))

@@ -1,10 +1,8 @@
 -- `rooms::cut_by_shape` meets its contract: so far the area is cut in each dimension passed that the rule names. Assumes nothing.
-use mathlib.Core.Path.{◌≡◌}
 use mathlib.Core.Bool.{Bool}
 use mathlib.Core.List.{List}
-use Prim.Native.Nat.{ℕ, ◌-◌, ◌≤◌}
+use Prim.Native.Nat.{ℕ, ◌≤◌}
 use lib.IntN.{ℤ}
-use lib.ListN.{length}
 use Rattle.integers.specs.Below.{◌⇒◌, all_below}
 use Rattle.sheet.specs.Layout.{axes, names_dim}
 use Rattle.points.specs.Area.{Cuts, area_of}
@@ -17,10 +15,7 @@ module _ (block o : List ℤ) (r s : ℕ) where
   side_holds d p = names_dim block r d ⇒ side_contained block o r s d p
 
   abbrev pub CutTo : ℕ → List ℤ → List ℤ → Type 0
-  CutTo n u w = (length w ≡ length u) × Cuts (axes block) (area_of u) (area_of w) (λ p. all_below n (λ d. side_holds d p))
+  CutTo n u w = Cuts (axes block) (area_of u) (area_of w) (λ p. all_below n (λ d. side_holds d p))
 
 abbrev pub invariant-loop-d : goal.invariant-loop-d
 invariant-loop-d l = (l.d ≤ l.k) × CutTo l.block l.outline l.r.number l.s l.d l.initial.ends l.ends
-
-abbrev pub decreases-loop-d : goal.decreases-loop-d
-decreases-loop-d l = l.k - l.d

@@ -2,7 +2,6 @@
 use mathlib.Core.Path.{◌≡◌, sym, ap, ◌∙◌, subst}
 use Rattle.integers.specs.Integer.{nat}
 use Rattle.integers.specs.Below.{UpTo}
-use Rattle.integers.proofs.Booleans.{not-true, not-false}
 use Rattle.points.specs.Area.{min_z, max_z}
 use Rattle.sheet.specs.Layout.{shape_of, has_shape, of_row}
 use Rattle.sheet.proofs.Accepted.{set-count}
@@ -30,7 +29,7 @@ has_shape-requires c =
     (w.row, set-count w.table w.row.from w.row.upto, subst (UpTo 32) (sym c.shape_number.ensures) u)
 
 pub returns-then-not-has_shape : goal.returns-then-not-has_shape
-returns-then-not-has_shape c = let e = sym (owns c.before) ∙ not-true c.if-not-has_shape.true-raw in (rw e, rw e)
+returns-then-not-has_shape c = let e = sym (owns c.before) ∙ c.if-not-has_shape.true in (rw e, rw e)
 
 pub of_box-requires : goal.of_box-requires
 of_box-requires c = c.requires
@@ -41,7 +40,7 @@ around-requires c = tt
 pub returns : goal.returns
 returns c =
     let a = c.args in
-    let e = sym (owns c.before.before.before) ∙ not-false c.if-not-has_shape.false-raw in (
+    let e = sym (owns c.before.before.before) ∙ c.if-not-has_shape.false in (
       rw e (c.around.ensures.0 ∙ ap (min_z a.x.start) c.of_box.ensures.0),
       rw e (c.around.ensures.1 ∙ ap (max_z a.x.end) c.of_box.ensures.1),
     )

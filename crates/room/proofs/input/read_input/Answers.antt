@@ -8,7 +8,7 @@ use Rattle.room.proofs.input.read_input.Goals as goal
 pub loop-n-preserved : goal.loop-n-preserved
 loop-n-preserved g c =
     let l = c.loop-n in
-    let read = c.read_some-x in
-    let front = filled l.n read.result.len l.text read.new.buf (search rules) (search rules) in
-    let all = Consumes-trans _ _ _ _ _ l.invariant.2 read.ensures.bytes in
-    (search rules, search rules, subst (Consumes _ _) (sym front) all)
+    let read = c.in-Ok.ensures in
+    let front = filled l.n c.in-Ok.more l.text c.read_some.new.buf (search rules) (search rules) in
+    let all = Consumes-trans _ _ _ _ _ l.invariant.1 read.bytes.0 in
+    (search rules, subst (Consumes _ _) (sym front) all)

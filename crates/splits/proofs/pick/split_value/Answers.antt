@@ -9,7 +9,7 @@ use Rattle.integers.proofs.Machine.{within_by}
 use Rattle.sheet.specs.Layout.{high}
 use Rattle.sheet.specs.Cuts.{number}
 use Rattle.words.proofs.Reading.{read_back}
-use Rattle.splits.proofs.Values.{number-near, open-near, high-open, high-past, split-least}
+use Rattle.splits.proofs.Values.{number-near, open-near, high-open, high-past}
 use Rattle.splits.proofs.pick.split_value.Lts as lts
 use Rattle.splits.proofs.pick.split_value.Reads as reads
 use Rattle.splits.proofs.pick.split_value.Tie as tie
@@ -17,10 +17,6 @@ use Rattle.splits.proofs.pick.split_value.Goals as goal
 
 abbrev Start : Type 0
 Start = lts.Start tie.the-claims reads.Pre reads.Post
-
-pub returns-then-column-eq0 : goal.returns-then-column-eq0
-returns-then-column-eq0 c =
-    split-least c.requires.0.has c.requires.1 (read_back c.number-low.ensures.0 c.number-low.type_inv)
 
 -- the range's ends
 module _ (c : goal.After-high_of) where

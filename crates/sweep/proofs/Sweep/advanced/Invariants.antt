@@ -7,6 +7,3 @@ use Rattle.sweep.proofs.Sweep.advanced.Given as goal
 
 abbrev pub invariant-loop-j : goal.invariant-loop-j
 invariant-loop-j l = advance (rotation l.k l.d) l.low l.high l.j l.self ≡ advance (rotation l.k l.d) l.low l.high l.k l.initial.self
-
-abbrev pub decreases-loop-j : goal.decreases-loop-j
-decreases-loop-j l = l.j

@@ -5,11 +5,14 @@ use Prim.Native.Nat.{◌≤◌, ◌<◌}
 use native.Mathlib.Omega.{arith}
 use borrow.Author.Rules.{rules}
 use lib.ListN.{length}
+use mir.Syntax.{w64}
+use mir.Val.{to_z, of_z}
 use mir.Facts.{to_z-of_z}
 use Rattle.integers.specs.Words.{word}
-use Rattle.integers.proofs.Machine.{bnd, num, ◌+ʷ◌, exact, fits_word}
+use Rattle.integers.proofs.Machine.{bnd, num, ◌+ʷ◌, exact}
 use Rattle.points.specs.Area.{coordinates, min_z}
-use Rattle.sweep.specs.Point.{nexts}
+use Rattle.points.proofs.Sums.{min_is}
+use Rattle.sweep.specs.Point.{next, nexts}
 use Rattle.sweep.specs.Moves.{jumped_past}
 use Rattle.sweep.proofs.Points.{near_fits, made_none, made_more, made_word, made_all}
 use Rattle.sweep.proofs.Points.{length-nexts, word-nexts, length-lessers, word-lessers}
@@ -23,35 +26,8 @@ loop-e-init c =
     let n = length-nexts c.args.last in
     (refl, refl, made_none (omega arith))
 
-pub offset_bounds-self-e : goal.offset_bounds-self-e
-offset_bounds-self-e c = omega arith
-
-pub bounds-self-e : goal.bounds-self-e
-bounds-self-e c = omega arith
-
-pub offset_bounds-last-e : goal.offset_bounds-last-e
-offset_bounds-last-e c = omega arith
-
-pub bounds-last-e : goal.bounds-last-e
-bounds-last-e c = omega arith
-
 pub overflow_add-last : goal.overflow_add-last
 overflow_add-last c = near_fits (c.requires.near c.loop-e.e) _ tt
-
-pub lesser-requires : goal.lesser-requires
-lesser-requires c = tt
-
-pub offset_bounds-self-e-in-loop-e : goal.offset_bounds-self-e-in-loop-e
-offset_bounds-self-e-in-loop-e c = omega arith
-
-pub bounds-self-e-in-loop-e : goal.bounds-self-e-in-loop-e
-bounds-self-e-in-loop-e c = omega arith
-
-pub overflow_add-e : goal.overflow_add-e
-overflow_add-e c = omega arith
-
-pub loop-e-smaller : goal.loop-e-smaller
-loop-e-smaller c = omega arith
 
 pub loop-e-preserved : goal.loop-e-preserved
 loop-e-preserved c =
@@ -59,15 +35,14 @@ loop-e-preserved c =
     let last = c.args.last in
     let e = c.loop-e.e in
     let made = c.loop-e.invariant.2 in
-    let h : c.loop-e.e < length c.args.self.jump = search rules in
-    let g : c.loop-e.e < length c.args.last = search rules in
-    let now = to_z-of_z (fits_word (word c.loop-e.self.jump e) c.lesser-arg-1.given) in
-    let past = exact (bnd (c.requires.near e) +ʷ num 1) tt in (
+    let h : e < length jump = search rules in
+    let g : e < length last = search rules in
+    let past = exact (bnd (c.requires.near e) +ʷ num 1) tt in
+    let r : to_z w64 (of_z w64 c.min.result) ≡ min_z (word c.loop-e.self.jump e) (next (word last e)) = grind (arith, to_z-of_z, min_is, past) in (
       c.loop-e.invariant.0,
       c.loop-e.invariant.1,
       made_more made h
-          (to_z-of_z (fits_word _ c.lesser.type_inv) ∙ c.lesser.ensures
-          ∙ ap₂ min_z (now ∙ made_word made h) (past ∙ sym (word-nexts last e g))
+          (r ∙ ap₂ min_z (made_word made h) (sym (word-nexts last e g))
           ∙ sym (word-lessers jump (nexts last) e h (omega (arith, length-nexts last, g)))),
     )
 

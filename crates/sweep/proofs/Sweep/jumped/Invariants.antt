@@ -1,8 +1,6 @@
 -- `jumped` lowers the jump point, word by word, to one past the last point of a region.
 -- Assumes nothing.
 use mathlib.Core.Path.{◌≡◌}
-use Prim.Native.Nat.{◌-◌}
-use Rattle.points.specs.Area.{coordinates}
 use Rattle.sweep.specs.Point.{nexts, lessers}
 use Rattle.sweep.proofs.Points.{Made}
 use Rattle.sweep.proofs.Sweep.jumped.Given as goal
@@ -10,6 +8,3 @@ use Rattle.sweep.proofs.Sweep.jumped.Given as goal
 abbrev pub invariant-loop-e : goal.invariant-loop-e
 invariant-loop-e l = (l.self.candidate ≡ l.initial.self.candidate) × (l.self.live ≡ l.initial.self.live)
     × Made l.initial.self.jump (lessers l.initial.self.jump (nexts l.last)) l.self.jump l.e
-
-abbrev pub decreases-loop-e : goal.decreases-loop-e
-decreases-loop-e l = coordinates - l.e

@@ -1,8 +1,0 @@
--- `form::block_zeros` meets its contract. Assumes nothing.
-use mathlib.Core.Path.{refl}
-use Rattle.line.specs.Answers.{zeros}
-use Rattle.form.proofs.block_zeros.Goals as goal
-
-pub returns : goal.returns
-unfolding zeros
-returns c = refl

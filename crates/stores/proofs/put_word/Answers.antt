@@ -1,6 +1,0 @@
--- `stores::put_word` meets its contract. Assumes nothing.
-use Rattle.stores.proofs.Stores.{set_past}
-use Rattle.stores.proofs.put_word.Goals as goal
-
-pub returns-else-at-out : goal.returns-else-at-out
-returns-else-at-out c = set_past _ _ _ c.if-at-out.false

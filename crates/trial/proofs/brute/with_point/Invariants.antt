@@ -1,9 +1,0 @@
--- `trial::brute::with_point` is safe and ends: d runs up to 4. Assumes nothing.
-use Rattle.std.proofs.Common.{◌-◌, ◌≤◌}
-use Rattle.trial.proofs.brute.with_point.Given as goal
-
-abbrev pub invariant-loop-d : goal.invariant-loop-d
-invariant-loop-d l = l.d ≤ 4
-
-abbrev pub decreases-loop-d : goal.decreases-loop-d
-decreases-loop-d l = 4 - l.d

@@ -1,9 +1,0 @@
--- `trial::reading::rows` is safe and ends: n runs up to 33. Assumes nothing.
-use Rattle.std.proofs.Common.{◌-◌, ◌≤◌}
-use Rattle.trial.proofs.reading.rows.Given as goal
-
-abbrev pub invariant-loop-n : goal.invariant-loop-n
-invariant-loop-n l = l.n ≤ 33
-
-abbrev pub decreases-loop-n : goal.decreases-loop-n
-decreases-loop-n l = 33 - l.n

@@ -71,7 +71,7 @@ fn refusal_finding(x: Result<(), Refusal>) -> i64
 {
     match x {
         Ok(()) => 0,
-        Err(g) => i64::from(g),
+        Err(refusal) => i64::from(refusal),
     }
 }
 

@@ -61,7 +61,8 @@ fn side_forbids(
 }
 
 // Whether the pair forbids p: in every dimension that the rule names, and no further than the first that clears it. The loop's bound is a
-// constant: unrolled, it keeps p in registers.
+// constant: unrolled, it keeps p in registers. It is compiled into the search for a pair, which otherwise takes a third longer.
+#[inline(always)]
 pub(crate) fn pair_forbids(
     block: &[i64],
     table: &[i64],

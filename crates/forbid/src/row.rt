@@ -105,7 +105,9 @@ pub fn set_region(
             break;
         }
         if words::has_shape(block, table, j, t + 1) {
-            let other = shapes_region(block, table, outline, r, s, j, t + 1, p)?;
+            let Some(other) = shapes_region(block, table, outline, r, s, j, t + 1, p) else {
+                return None;
+            };
             area = area.common(k, other);
         }
     }

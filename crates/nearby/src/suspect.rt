@@ -1,12 +1,13 @@
 // Suspects: another row and a rule, and an area that holds every point that they can forbid. They are lent as a run of words, which is shorter
 // where there can be few (docs/DECISIONS.md 29, 30).
-ghost use Rattle.std.specs.Prelude.{◌≡◌, ℕ, suc, ◌*◌, ◌≤◌, pos, length};
+ghost use Rattle.std.specs.Prelude.{◌≡◌, true, ℕ, suc, ◌*◌, ◌≤◌, pos, length};
 ghost use Rattle.std.specs.Int.Count.{ones};
 ghost use Rattle.integers.specs.Words.{word};
 ghost use Rattle.integers.specs.Integer.{nat};
 ghost use Rattle.sheet.specs.Layout.{axes, rows};
 ghost use Rattle.sheet.specs.Allowed.{set_forbids, forbidden};
 ghost use Rattle.sheet.specs.Accepted.{Count, Head, Rows};
+ghost use Rattle.points.specs.Area.{in_area};
 ghost use Rattle.points.specs.Ends.{SameBut};
 ghost use Rattle.outline.specs.Places.{rules_at};
 ghost use Rattle.forbid.specs.Region.{IsRegion, AtPoint};
@@ -55,7 +56,7 @@ pub(crate) fn put_suspect(suspects: &mut [i64], e: usize, r: usize, j: usize, ar
     ends::put_area(suspects, at + AREA, area);
 }
 
-// What suspect e forbids at p, if its area holds p. A row with one shape, as most have, is asked about by that shape alone. Either region is
+// What suspect e, whose area holds p, forbids at p. A row with one shape, as most have, is asked about by that shape alone. Either region is
 // handed back where it is found, since one that may come of two calls is copied.
 fn region_of(
     block: &[i64],
@@ -67,13 +68,11 @@ fn region_of(
     e: usize,
     p: [i64; COORDINATES],
 ) -> Option<Area>
-    requires { AtPoint block.now table.now outline.now s p × SuspectAt block.now table.now i.number s suspects.now e }
+    requires { AtPoint block.now table.now outline.now s p × SuspectAt block.now table.now i.number s suspects.now e
+        × (in_area (axes block.now) (suspect_area suspects.now e) p ≡ true) }
     ensures { IsRegion (axes block.now) (suspect_forbids block.now table.now i.number s suspects.now p e) p result }
 {
     let at = SUSPECT * e;
-    if !ends::area_holds(suspects, at + AREA, words::axes_of(block), p) {
-        return None;
-    }
     let r = words::rule_place(block, words::count_at(suspects, at));
     let j = words::row_place(block, table, words::count_at(suspects, at + ROW));
     if words::has_one_shape(block, table, j) {
@@ -83,7 +82,8 @@ fn region_of(
     row::set_region(block, table, outline, r, s, j, p)
 }
 
-// What forbids p among the suspects, or where the list is not whole among all rules and rows.
+// What forbids p among the suspects, or where the list is not whole among all rules and rows. The area is asked here, so that nothing is
+// handed back for a suspect that misses, as most do.
 pub(crate) fn suspected_region(
     block: &[i64],
     table: &[i64],
@@ -99,5 +99,15 @@ pub(crate) fn suspected_region(
     let Some(count) = nearby.count else {
         return forbid::forbidding_region(block, table, outline, nearby.i, nearby.s, p);
     };
-    (0..count).find_map(|e| region_of(block, table, outline, suspects, nearby.i, nearby.s, e, p))
+    let k = words::axes_of(block);
+    for e in 0..count {
+        if ends::area_holds(suspects, SUSPECT * e + AREA, k, p) {
+            if let Some(area) = region_of(
+                block, table, outline, suspects, nearby.i, nearby.s, e, p,
+            ) {
+                return Some(area);
+            }
+        }
+    }
+    None
 }

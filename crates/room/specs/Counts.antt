@@ -9,3 +9,8 @@ IsPrefixLen n xs = (n ≤ length xs) × (n ≡ length (take n xs))
 abbrev pub read_len : Result ℕ ℕ → ℕ
 read_len (Ok n) = n
 read_len (Err n) = n
+
+-- what was read, to the end or before a read that failed
+abbrev pub what_read : {A : Type 0} → Result A A → A
+what_read (Ok x) = x
+what_read (Err x) = x

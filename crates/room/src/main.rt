@@ -8,7 +8,7 @@ ghost use Rattle.stores.specs.Put.{Put};
 ghost use Rattle.sheet.specs.Layout.{table_most};
 ghost use Rattle.sheet.specs.Text.{printed};
 ghost use Rattle.room.specs.Answers.{printed_of, response};
-ghost use Rattle.room.specs.Counts.{IsPrefixLen, read_len};
+ghost use Rattle.room.specs.Counts.{IsPrefixLen, what_read};
 
 use sheet::Refusal;
 use std::io;
@@ -59,13 +59,12 @@ fn answer(text: &[u8], out: &mut [u8; ANSWER]) -> usize
 
 // Puts what the program prints at the start of `out`, which has room for it: for a text that was read to its end its answer, and for one that
 // was not its refusal with 1. The other bytes stay. The result is the length.
-fn respond(read: Result<usize, usize>, text: &[u8], out: &mut [u8; ANSWER]) -> usize
-    requires { IsPrefixLen (read_len read) text.now }
-    ensures put { Put out.old 0 (response (is_ok read) (take (read_len read) text.now)) result out.new }
+fn respond(read: Result<&[u8], &[u8]>, out: &mut [u8; ANSWER]) -> usize
+    ensures put { Put out.old 0 (response (is_ok read.entry) (what_read read.entry).now) result out.new }
     ensures prefix_len { IsPrefixLen result out.new }
 {
     match read {
-        Ok(n) => answer(&text[..n], out),
+        Ok(text) => answer(text, out),
         Err(_) => listing::put_refused(out, i64::from(Refusal::BadText)),
     }
 }
@@ -74,7 +73,10 @@ fn respond(read: Result<usize, usize>, text: &[u8], out: &mut [u8; ANSWER]) -> u
 fn main(rt: HostRuntime) -> io::Result<()> {
     let mut text = [0u8; TEXT];
     let mut out = [0u8; ANSWER];
-    let read = input::read_input(&mut rt.stdin(), &mut text);
-    let m = respond(read, &text, &mut out);
+    let read = match input::read_input(&mut rt.stdin(), &mut text) {
+        Ok(n) => Ok(&text[..n]),
+        Err(n) => Err(&text[..n]),
+    };
+    let m = respond(read, &mut out);
     rt.write_all(&out[..m])
 }

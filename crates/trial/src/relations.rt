@@ -32,6 +32,7 @@ fn interval_of(block: &[i64], table: &[i64], i: usize, d: usize) -> Interval {
     x
 }
 
+// In the order of their numbers, from 1.
 const RELATIONS: [Allen; 13] = [
     Allen::Precedes,
     Allen::Meets,
@@ -67,17 +68,17 @@ fn holds(relation: Allen, x: Interval, y: Interval) -> bool {
     }
 }
 
-// The set of a relation's number alone.
-fn number_set(relation: Allen) -> i64 {
-    set_of(count_of(relation as i64))
+// The numbers of the relations that hold, as a set: each by its place among the thirteen, not by the kernel's number.
+fn all_that_hold(x: Interval, y: Interval) -> i64 {
+    (1..14)
+        .zip(RELATIONS.iter())
+        .filter(|(_, relation)| holds(**relation, x, y))
+        .fold(0, |set, (number, _)| set | set_of(number))
 }
 
-// The numbers of the relations that hold, as a set.
-fn all_that_hold(x: Interval, y: Interval) -> i64 {
-    RELATIONS
-        .iter()
-        .filter(|m| holds(**m, x, y))
-        .fold(0, |set, m| set | number_set(*m))
+// The set of the kernel's number of a relation alone.
+fn number_set(relation: Allen) -> i64 {
+    set_of(count_of(relation as i64))
 }
 
 // ---- pairs of rows

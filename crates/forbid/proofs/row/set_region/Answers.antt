@@ -16,7 +16,7 @@ use Rattle.forbid.specs.Region.{Versus}
 use Rattle.forbid.proofs.Regions.{cut-region, missed, forbids-same, forbids-both}
 use Rattle.forbid.proofs.Rows.{shapes-none, shapes-skip, shapes-more, shapes-all, set-missed}
 use Rattle.forbid.proofs.row.set_region.Goals as goal
-use Rattle.forbid.proofs.row.set_region.Goals.{then-has_shape+in_ok-other, else-has_shape}
+use Rattle.forbid.proofs.row.set_region.Goals.{then-has_shape+in-Some, else-has_shape}
 
 -- row j's set is a set of shapes
 is_set : {block t o : List ℤ} {r j : Place} {s : ℕ} {p : List ℤ} → Versus block t o r s j p → Count (shape_set block t j.number)
@@ -29,21 +29,20 @@ loop-t-init c =
     (let none = shapes-none _ _ _ i _ _ _ (none_before _ _ _ c.shapes_of-set.ensures) in
     cut-region w.accepted.head.few_axes w.near (none _) (cuts-none none))
 
-pub returns-in_err-other : goal.returns-in_err-other
-returns-in_err-other c =
-    λ i. rw c.from_residual.ensures
-    (missed (set-missed _ _ _ i _ _ (c.loop-t.t + 1) (omega arith) (sym c.has_shape.ensures ∙ c.if-has_shape.true) _
-    (sym (c.in_err-other.ensures i).hit)))
+pub returns-in_default : goal.returns-in_default
+returns-in_default c =
+    λ i. missed (set-missed _ _ _ i _ _ (c.loop-t.t + 1) (omega arith) (sym c.has_shape.ensures ∙ c.if-has_shape.true) _
+    (sym (c.in_default.ensures i).hit))
 
 pub common-area-requires : goal.common-area-requires
-common-area-requires c = (omega (arith, c.axes_of-k.ensures, c.requires.at_point.accepted.head.few_axes), (c.in_ok-other.ensures 0).small)
+common-area-requires c = (omega (arith, c.axes_of-k.ensures, c.requires.at_point.accepted.head.few_axes), (c.in-Some.ensures 0).small)
 
 pub loop-t-preserved : goal.loop-t-preserved
 loop-t-preserved c =
     λ i. elim c.if-has_shape.branch [
-      | then-has_shape+in_ok-other w ↦ rw w.area-is
+      | then-has_shape+in-Some w ↦ rw w.area-is
           (forbids-same (shapes-more _ _ _ i _ _ _ (sym c.has_shape.ensures ∙ w.if-has_shape.true))
-          (forbids-both (c.loop-t.invariant i) (w.in_ok-other.ensures i) (rw c.axes_of-k.ensures at w.common-area.ensures)))
+          (forbids-both (c.loop-t.invariant i) (w.in-Some.ensures i) (rw c.axes_of-k.ensures at w.common-area.ensures)))
       | else-has_shape w ↦ rw w.area-is
           (forbids-same (shapes-skip _ _ _ i _ _ _ (sym c.has_shape.ensures ∙ w.if-has_shape.false)) (c.loop-t.invariant i))
     ]
